@@ -1,0 +1,225 @@
+-- Laws of tests and of the small functions on lists.
+use Prim.Native.Nat.{ℕ, zero, suc, _+_, _≤_, _<_}
+use mathlib.Core.Path.{_≡_, refl, sym, ap, subst, _∙_}
+use mathlib.Core.List.{List, [], _∷_, _++_, List·Memᴰ, List·Memᴰ·head, List·Memᴰ·tail, List·Memᴰ·cases-cons, List·Memᴰ·not-nil, Memᴰ·cast}
+use native.Mathlib.Nat.{eq-or-lt-of-le}
+use mathlib.Core.Bool.{Bool, true, false, _&&_, _||_, not, true≢false}
+use mathlib.Core.Option.{Option, none, some}
+use mathlib.Core.Logic.{_⊎_, inl, inr, ⊎-elim, _↔_, _≢_}
+use lib.Dec.{eqb, ltb, T, eqb→eq, eqb-refl, lt→ltb, ltb→lt}
+use native.Mathlib.Omega.{arith}
+use Rattle.poset.specs.Lists.{any, keep, member, count, upFrom, below, first, onlyIf}
+
+-- tests
+
+pub decided : (b : Bool) → (b ≡ true) ⊎ (b ≡ false)
+decided true = inl refl
+decided false = inr refl
+
+pub clash : {b : Bool} → b ≡ true → b ≡ false → ⊥
+clash p q = true≢false (sym p ∙ q)
+
+pub T-true : (b : Bool) → T b → b ≡ true
+T-true true h = refl
+
+pub true-T : (b : Bool) → b ≡ true → T b
+true-T b e = subst T (sym e) tt
+
+pub false-unless : (b : Bool) → (b ≡ true → ⊥) → b ≡ false
+false-unless true h = absurd (h refl)
+false-unless false h = refl
+
+pub and-left : (a b : Bool) → (a && b) ≡ true → a ≡ true
+and-left true b h = refl
+and-left false b h = h
+
+pub and-right : (a b : Bool) → (a && b) ≡ true → b ≡ true
+and-right true b h = h
+and-right false b h = absurd (clash h refl)
+
+pub and-intro : (a b : Bool) → a ≡ true → b ≡ true → (a && b) ≡ true
+and-intro true b p q = q
+and-intro false b p q = p
+
+pub or-cases : (a b : Bool) → (a || b) ≡ true → (a ≡ true) ⊎ (b ≡ true)
+or-cases true b h = inl refl
+or-cases false b h = inr h
+
+pub or-left : (a b : Bool) → a ≡ true → (a || b) ≡ true
+or-left true b h = refl
+or-left false b h = absurd (clash h refl)
+
+pub or-right : (a b : Bool) → b ≡ true → (a || b) ≡ true
+or-right true b h = refl
+or-right false b h = h
+
+pub not-true : (b : Bool) → not b ≡ true → b ≡ false
+not-true true h = sym h
+not-true false h = refl
+
+pub not-false : (b : Bool) → b ≡ false → not b ≡ true
+not-false true h = sym h
+not-false false h = refl
+
+pub eqb-true : (u v : ℕ) → eqb u v ≡ true → u ≡ v
+eqb-true u v h = eqb→eq u v (true-T _ h)
+
+pub eqb-same : (u : ℕ) → eqb u u ≡ true
+eqb-same u = T-true _ (eqb-refl u)
+
+pub eqb-differ : (u v : ℕ) → (u ≡ v → ⊥) → eqb u v ≡ false
+eqb-differ u v h = false-unless _ (λ e. h (eqb-true u v e))
+
+-- lists: what each function does with one element more
+
+module _ {ℓ} {A : Type ℓ} (p : A → Bool) (x : A) (xs : List A) where
+  pub any-yes : p x ≡ true → any p (x ∷ xs) ≡ true
+  unfolding any
+  any-yes e = rw (e, any)
+
+  pub any-not : p x ≡ false → any p (x ∷ xs) ≡ any p xs
+  unfolding any
+  any-not e = rw (e, any)
+
+  pub keep-yes : p x ≡ true → keep p (x ∷ xs) ≡ x ∷ keep p xs
+  unfolding keep
+  keep-yes e = rw (e, keep)
+
+  pub keep-not : p x ≡ false → keep p (x ∷ xs) ≡ keep p xs
+  unfolding keep
+  keep-not e = rw (e, keep)
+
+module _ (x y : ℕ) (ys : List ℕ) where
+  pub count-same : x ≡ y → count x (y ∷ ys) ≡ suc (count x ys)
+  unfolding count
+  count-same e = rw (ap (eqb x) (sym e) ∙ eqb-same x, count)
+
+  pub count-other : (x ≡ y → ⊥) → count x (y ∷ ys) ≡ count x ys
+  unfolding count
+  count-other e = rw (eqb-differ x y e, count)
+
+module _ {ℓ κ} {A : Type ℓ} {B : Type κ} (f : A → Option B) (x : A) (xs : List A) where
+  pub first-here : {b : B} → f x ≡ some b → first f (x ∷ xs) ≡ some b
+  unfolding first
+  first-here e = rw (e, first)
+
+  pub first-later : f x ≡ none → first f (x ∷ xs) ≡ first f xs
+  unfolding first
+  first-later e = rw (e, first)
+
+-- membership
+
+module _ {ℓ} {A : Type ℓ} (p : A → Bool) where
+  pub any-hit : {x : A} {xs : List A} → List·Memᴰ x xs → p x ≡ true → any p xs ≡ true
+  any-hit (List·Memᴰ·head {x = y} {xs = ys} e) h = any-yes p y ys (ap p (sym e) ∙ h)
+  any-hit (List·Memᴰ·tail {x = y} {xs = ys} m) h =
+      ⊎-elim (λ e. any-yes p y ys e) (λ e. any-not p y ys e ∙ any-hit m h) (decided (p y))
+
+  pub any-found : (xs : List A) → any p xs ≡ true → (x : A) × List·Memᴰ x xs × (p x ≡ true)
+  unfolding any
+  any-found [] h = absurd (clash h refl)
+  any-found (y ∷ ys) h =
+      ⊎-elim (λ e. (y, List·Memᴰ·head refl, e)) (λ e. later (any-found ys (sym (any-not p y ys e) ∙ h))) (decided (p y))
+    where
+      later : (x : A) × List·Memᴰ x ys × (p x ≡ true) → (x : A) × List·Memᴰ x (y ∷ ys) × (p x ≡ true)
+      later f = (f .0, List·Memᴰ·tail (f .1), f .2)
+
+  pub any-miss : (xs : List A) → any p xs ≡ false → {x : A} → List·Memᴰ x xs → p x ≡ false
+  any-miss xs h {x} m = false-unless (p x) (λ e. clash (any-hit m e) h)
+
+  pub any-none : (xs : List A) → ((x : A) → List·Memᴰ x xs → p x ≡ false) → any p xs ≡ false
+  any-none xs h = false-unless _ (λ e. let f = any-found xs e in clash (f .2) (h (f .0) (f .1)))
+
+  pub keep-mem : {x : A} {xs : List A} → List·Memᴰ x xs → p x ≡ true → List·Memᴰ x (keep p xs)
+  keep-mem (List·Memᴰ·head {x = y} {xs = ys} e) h = rw (keep-yes p y ys (ap p (sym e) ∙ h)) (List·Memᴰ·head e)
+  keep-mem (List·Memᴰ·tail {x = y} {xs = ys} m) h =
+      ⊎-elim
+      (λ e. rw (keep-yes p y ys e) (List·Memᴰ·tail (keep-mem m h)))
+      (λ e. rw (keep-not p y ys e) (keep-mem m h))
+      (decided (p y))
+
+  pub mem-keep : (xs : List A) {x : A} → List·Memᴰ x (keep p xs) → List·Memᴰ x xs × (p x ≡ true)
+  unfolding keep
+  mem-keep [] m = absurd (List·Memᴰ·not-nil m)
+  mem-keep (y ∷ ys) {x} m =
+      ⊎-elim
+      (λ e. hit e (λ m′. mem-keep ys m′) (List·Memᴰ·cases-cons (rw (keep-yes p y ys e) at m)))
+      (λ e. past (mem-keep ys (rw (keep-not p y ys e) at m)))
+      (decided (p y))
+    where
+      past : List·Memᴰ x ys × (p x ≡ true) → List·Memᴰ x (y ∷ ys) × (p x ≡ true)
+      past q = (List·Memᴰ·tail (q .0), q .1)
+
+      hit : p y ≡ true → (List·Memᴰ x (keep p ys) → List·Memᴰ x ys × (p x ≡ true)) → (x ≡ y) ⊎ List·Memᴰ x (keep p ys) → List·Memᴰ x (y ∷ ys) × (p x ≡ true)
+      hit e ih (inl q) = (List·Memᴰ·head q, ap p q ∙ e)
+      hit e ih (inr m′) = past (ih m′)
+
+pub member-mem : (u : ℕ) (xs : List ℕ) → member u xs ≡ true → List·Memᴰ u xs
+unfolding member
+member-mem u xs h = let f = any-found (eqb u) xs h in Memᴰ·cast (eqb-true _ _ (f .2)) (f .1)
+
+pub mem-member : {u : ℕ} {xs : List ℕ} → List·Memᴰ u xs → member u xs ≡ true
+unfolding member
+mem-member {u} m = any-hit (eqb u) m (eqb-same u)
+
+pub count-zero : (u : ℕ) (xs : List ℕ) → (List·Memᴰ u xs → ⊥) → count u xs ≡ 0
+unfolding count
+count-zero u [] h = refl
+count-zero u (x ∷ xs) h =
+    count-other u x xs (λ e. h (List·Memᴰ·head e)) ∙ count-zero u xs (λ m. h (List·Memᴰ·tail m))
+
+pub count-mem : (u : ℕ) (xs : List ℕ) → 0 < count u xs → List·Memᴰ u xs
+unfolding count
+count-mem u [] h = absurd (omega arith)
+count-mem u (x ∷ xs) h =
+    ⊎-elim
+    (λ e. List·Memᴰ·head (eqb-true u x e))
+    (λ e. List·Memᴰ·tail (count-mem u xs (rw (count-other u x xs (λ q. clash (ap (eqb u) (sym q) ∙ eqb-same u) e)) at h)))
+    (decided (eqb u x))
+
+pub mem-count : {u : ℕ} {xs : List ℕ} → List·Memᴰ u xs → 0 < count u xs
+mem-count {u} (List·Memᴰ·head {x = x} {xs = xs} e) = omega (arith, count-same u x xs e)
+mem-count {u} (List·Memᴰ·tail {x = x} {xs = xs} m) =
+    ⊎-elim
+    (λ e. omega (arith, count-same u x xs (eqb-true u x e)))
+    (λ e. rw (count-other u x xs (λ q. clash (ap (eqb u) (sym q) ∙ eqb-same u) e)) (mem-count m))
+    (decided (eqb u x))
+
+pub count-append : (u : ℕ) (xs ys : List ℕ) → count u (xs ++ ys) ≡ count u xs + count u ys
+unfolding count
+count-append u [] ys = omega arith
+count-append u (x ∷ xs) ys =
+    ⊎-elim
+    (λ e. omega (arith, count-append u xs ys, count-same u x (xs ++ ys) (eqb-true u x e), count-same u x xs (eqb-true u x e)))
+    (λ e.
+    let d : u ≡ x → ⊥ = λ q. clash (ap (eqb u) (sym q) ∙ eqb-same u) e in
+    omega (arith, count-append u xs ys, count-other u x (xs ++ ys) d, count-other u x xs d))
+    (decided (eqb u x))
+
+-- the numbers below n
+
+pub upFrom-mem : (k n u : ℕ) → k ≤ u → u < k + n → List·Memᴰ u (upFrom k n)
+unfolding upFrom
+upFrom-mem k zero u p q = absurd (omega arith)
+upFrom-mem k (suc n) u p q =
+    ⊎-elim
+    (λ (e : k ≡ u). List·Memᴰ·head (sym e))
+    (λ (h : k < u). List·Memᴰ·tail (upFrom-mem (suc k) n u h (omega arith)))
+    (eq-or-lt-of-le p)
+
+pub mem-upFrom : (k n : ℕ) {u : ℕ} → List·Memᴰ u (upFrom k n) → (k ≤ u) × (u < k + n)
+unfolding upFrom
+mem-upFrom k zero m = absurd (List·Memᴰ·not-nil m)
+mem-upFrom k (suc n) {u} m =
+    ⊎-elim
+    (λ (e : u ≡ k). omega arith)
+    (λ (m′ : List·Memᴰ u (upFrom (suc k) n)). let b = mem-upFrom (suc k) n m′ in omega arith)
+    (List·Memᴰ·cases-cons m)
+
+pub below-mem : {n u : ℕ} → u < n → List·Memᴰ u (below n)
+unfolding below
+below-mem {n} {u} h = upFrom-mem 0 n u (omega arith) (omega arith)
+
+pub mem-below : (n : ℕ) {u : ℕ} → List·Memᴰ u (below n) → u < n
+unfolding below
+mem-below n m = let b = mem-upFrom 0 n m in omega arith

@@ -1,0 +1,5 @@
+-- The theory of series-parallel orders: what a reader must believe.
+pub mod Lists
+pub mod Order
+pub mod Tree
+pub mod Decompose
