@@ -53,6 +53,17 @@ pub or-right : (a b : Bool) → b ≡ true → (a || b) ≡ true
 or-right true b h = refl
 or-right false b h = h
 
+-- a disjunction of three with one part left
+pub or-middle : (a b c : Bool) → a ≡ false → c ≡ false → (a || (b || c)) ≡ b
+or-middle true b c p q = absurd (clash refl p)
+or-middle false true c p q = refl
+or-middle false false c p q = q
+
+pub or-last : (a b c : Bool) → a ≡ false → b ≡ false → (a || (b || c)) ≡ c
+or-last true b c p q = absurd (clash refl p)
+or-last false true c p q = absurd (clash refl q)
+or-last false false c p q = refl
+
 pub not-true : (b : Bool) → not b ≡ true → b ≡ false
 not-true true h = sym h
 not-true false h = refl
@@ -69,6 +80,12 @@ eqb-same u = T-true _ (eqb-refl u)
 
 pub eqb-differ : (u v : ℕ) → (u ≡ v → ⊥) → eqb u v ≡ false
 eqb-differ u v h = false-unless _ (λ e. h (eqb-true u v e))
+
+pub ltb-true : (u v : ℕ) → ltb u v ≡ true → u < v
+ltb-true u v h = ltb→lt u v (true-T _ h)
+
+pub lt-true : (u v : ℕ) → u < v → ltb u v ≡ true
+lt-true u v h = T-true _ (lt→ltb u v h)
 
 -- lists: what each function does with one element more
 

@@ -1,1 +1,4 @@
 pub mod Laws
+pub mod Standing
+pub mod Shape
+pub mod Meaning
