@@ -2,3 +2,5 @@ pub mod Laws
 pub mod Standing
 pub mod Shape
 pub mod Meaning
+pub mod Forbidden
+pub mod Linked

@@ -10,13 +10,44 @@ use native.Mathlib.Omega.{arith}
 use Rattle.poset.specs.Lists.{count}
 use Rattle.poset.specs.Order.{Rel, Strict}
 use Rattle.poset.specs.Tree.{
-  Kind, series, parallel, Tree, leaf, node, Forest, last, more, leaves, forestLeaves, precedes, forestPrecedes, Spans, Means,
+  Kind,
+  series,
+  parallel,
+  Tree,
+  leaf,
+  node,
+  Forest,
+  last,
+  more,
+  leaves,
+  forestLeaves,
+  precedes,
+  forestPrecedes,
+  Spans,
+  Means,
 }
 use Rattle.poset.proofs.Laws.{clash, decided, false-unless, ltb-true, lt-true, eqb-true, eqb-same, count-same, count-other, count-zero, count-mem, mem-count, count-append}
-use Rattle.poset.proofs.Standing.{Stands, Free}
+use Rattle.poset.proofs.Standing.{Stands, Free, stands-forth, stands-back}
 use Rattle.poset.proofs.Shape.{
-  In, InForest, in-leaves, in-forestLeaves, leaves-in, forestLeaves-in, Once, OnceForest, Apart, Across, Good, GoodForest, good-once, goodForest-once, group,
-  isSeries, group-left, group-right, group-back, group-cross,
+  In,
+  InForest,
+  in-leaves,
+  in-forestLeaves,
+  leaves-in,
+  forestLeaves-in,
+  Once,
+  OnceForest,
+  Apart,
+  Across,
+  Good,
+  GoodForest,
+  good-once,
+  goodForest-once,
+  group,
+  group-left,
+  group-right,
+  group-back,
+  group-cross,
 }
 
 -- a tree says what r says of each two of its jobs
@@ -35,10 +66,10 @@ group-across : (r : Rel) (k : Kind) (t : Tree) (f : Forest) → Apart t f → Ag
 group-across r series t f apart a u v p q =
     (sym (a u v (inl p) (inr q)) ∙ group-cross series t f apart u v p q, sym (a v u (inr q) (inl p)) ∙ group-back series t f apart v u q p)
 group-across r parallel t f apart a u v p q =
-    record
-    { differ = λ e. apart v (subst (In t) e p) q
-    ; forth = sym (a u v (inl p) (inr q)) ∙ group-cross parallel t f apart u v p q
-    ; back = sym (a v u (inr q) (inl p)) ∙ group-back parallel t f apart v u q p
+    record {
+      differ = λ e. apart v (subst (In t) e p) q;
+      forth = sym (a u v (inl p) (inr q)) ∙ group-cross parallel t f apart u v p q;
+      back = sym (a v u (inr q) (inl p)) ∙ group-back parallel t f apart v u q p;
     }
 
 group-first : (r : Rel) (k : Kind) (t : Tree) (f : Forest) → Apart t f → AgreesGroup r k t f → Agrees r t
@@ -49,36 +80,34 @@ group-rest r k t f apart a u v p q = sym (group-right k t f apart u v p q) ∙ a
 
 mutual
   unfolding precedes
+
   pub agrees-good : (r : Rel) (t : Tree) → Once t → Agrees r t → Good r t
   agrees-good r (leaf j) o a = sym (a j j refl refl)
-  agrees-good r (node k t f) o a =
-      ( agrees-good r t (o .0) (group-first r k t f (o .2) a)
-      , agreesForest-good r k f (o .1) (group-rest r k t f (o .2) a)
-      , group-across r k t f (o .2) a
-      )
+  agrees-good r (node k t f) o a = (
+    agrees-good r t (o .0) (group-first r k t f (o .2) a),
+    agreesForest-good r k f (o .1) (group-rest r k t f (o .2) a),
+    group-across r k t f (o .2) a,
+  )
 
   pub agreesForest-good : (r : Rel) (k : Kind) (f : Forest) → OnceForest f → AgreesForest r k f → GoodForest r k f
   agreesForest-good r k (last t) o a = agrees-good r t o a
-  agreesForest-good r k (more t f) o a =
-      ( agrees-good r t (o .0) (group-first r k t f (o .2) a)
-      , agreesForest-good r k f (o .1) (group-rest r k t f (o .2) a)
-      , group-across r k t f (o .2) a
-      )
+  agreesForest-good r k (more t f) o a = (
+    agrees-good r t (o .0) (group-first r k t f (o .2) a),
+    agreesForest-good r k f (o .1) (group-rest r k t f (o .2) a),
+    group-across r k t f (o .2) a,
+  )
 
 -- and back
 
-across-agrees : (r : Rel) (k : Kind) (u v : ℕ) → Stands k r u v → (isSeries k ≡ r u v) × (r v u ≡ false)
-across-agrees r series u v s = (sym (s .0), s .1)
-across-agrees r parallel u v s = (sym (s .forth), s .back)
-
 group-agrees : (r : Rel) (k : Kind) (t : Tree) (f : Forest) → Apart t f → Across r k t f → Agrees r t → AgreesForest r k f → AgreesGroup r k t f
 group-agrees r k t f apart x a b u v (inl p) (inl q) = group-left k t f apart u v p q ∙ a u v p q
-group-agrees r k t f apart x a b u v (inl p) (inr q) = group-cross k t f apart u v p q ∙ across-agrees r k u v (x u v p q) .0
-group-agrees r k t f apart x a b u v (inr p) (inl q) = group-back k t f apart u v p q ∙ sym (across-agrees r k v u (x v u q p) .1)
+group-agrees r k t f apart x a b u v (inl p) (inr q) = group-cross k t f apart u v p q ∙ sym (stands-forth k r u v (x u v p q))
+group-agrees r k t f apart x a b u v (inr p) (inl q) = group-back k t f apart u v p q ∙ sym (stands-back k r v u (x v u q p))
 group-agrees r k t f apart x a b u v (inr p) (inr q) = group-right k t f apart u v p q ∙ b u v p q
 
 mutual
   unfolding precedes
+
   pub good-agrees : (r : Rel) (t : Tree) → Good r t → Agrees r t
   good-agrees r (leaf j) g u v p q = sym (ap₂ r p q ∙ g)
   good-agrees r (node k t f) g u v p q =
@@ -103,21 +132,22 @@ apart-of-count t f c u p q =
 
 mutual
   unfolding leaves
+
   once-of-count : (t : Tree) → AtMostOne (λ u. count u (leaves t)) → Once t
   once-of-count (leaf j) c = tt
-  once-of-count (node k t f) c =
-      ( once-of-count t (λ u. omega (arith, c u, count-group u t f))
-      , onceForest-of-count f (λ u. omega (arith, c u, count-group u t f))
-      , apart-of-count t f c
-      )
+  once-of-count (node k t f) c = (
+    once-of-count t (λ u. omega (arith, c u, count-group u t f)),
+    onceForest-of-count f (λ u. omega (arith, c u, count-group u t f)),
+    apart-of-count t f c,
+  )
 
   onceForest-of-count : (f : Forest) → AtMostOne (λ u. count u (forestLeaves f)) → OnceForest f
   onceForest-of-count (last t) c = once-of-count t c
-  onceForest-of-count (more t f) c =
-      ( once-of-count t (λ u. omega (arith, c u, count-group u t f))
-      , onceForest-of-count f (λ u. omega (arith, c u, count-group u t f))
-      , apart-of-count t f c
-      )
+  onceForest-of-count (more t f) c = (
+    once-of-count t (λ u. omega (arith, c u, count-group u t f)),
+    onceForest-of-count f (λ u. omega (arith, c u, count-group u t f)),
+    apart-of-count t f c,
+  )
 
 single-count : (u j : ℕ) → count u (j ∷ []) ≤ 1
 unfolding count
@@ -140,6 +170,7 @@ group-count u t f apart p q =
 
 mutual
   unfolding leaves count
+
   once-count : (t : Tree) → Once t → AtMostOne (λ u. count u (leaves t))
   once-count (leaf j) o u = single-count u j
   once-count (node k t f) o u = group-count u t f (o .2) (once-count t (o .0) u) (onceForest-count f (o .1) u)
@@ -160,15 +191,15 @@ spans-not : (n : ℕ) (t : Tree) → Spans n t → (u : ℕ) → ltb u n ≡ fal
 spans-not n t s u e = s u ∙ ap (λ b. cond b 1 0) e
 
 pub spans-holds : (n : ℕ) (t : Tree) → Spans n t → Once t × Holds n t
-spans-holds n t s =
-    ( once-of-count t
-      (λ u. ⊎-elim (λ e. omega (arith, spans-yes n t s u e)) (λ e. omega (arith, spans-not n t s u e)) (decided (ltb u n)))
-    , record
-      { inside = λ u p.
-          ⊎-elim (λ e. ltb-true u n e) (λ e. absurd (omega (arith, spans-not n t s u e, mem-count (in-leaves t p)))) (decided (ltb u n))
-      ; outside = λ u p. leaves-in t (count-mem u (leaves t) (omega (arith, spans-yes n t s u (lt-true u n p))))
-      }
-    )
+spans-holds n t s = (
+  once-of-count t
+      (λ u. ⊎-elim (λ e. omega (arith, spans-yes n t s u e)) (λ e. omega (arith, spans-not n t s u e)) (decided (ltb u n))),
+  record {
+    inside = λ u p.
+        ⊎-elim (λ e. ltb-true u n e) (λ e. absurd (omega (arith, spans-not n t s u e, mem-count (in-leaves t p)))) (decided (ltb u n));
+    outside = λ u p. leaves-in t (count-mem u (leaves t) (omega (arith, spans-yes n t s u (lt-true u n p))));
+  },
+)
 
 pub holds-spans : (n : ℕ) (t : Tree) → Once t → Holds n t → Spans n t
 holds-spans n t o h u =
@@ -189,14 +220,14 @@ pub record Fits (n : ℕ) (r : Rel) (t : Tree) : Type 0 where
 pub means-fits : (n : ℕ) (r : Rel) (t : Tree) → Means n t r → Fits n r t
 means-fits n r t m =
     let s = spans-holds n t (m .spans) in
-    record
-    { good = agrees-good r t (s .0) (λ u v p q. m .agrees u v (s .1 .inside u p) (s .1 .inside v q))
-    ; holds = s .1
+    record {
+      good = agrees-good r t (s .0) (λ u v p q. m .agrees u v (s .1 .inside u p) (s .1 .inside v q));
+      holds = s .1;
     }
 
 pub fits-means : (n : ℕ) (r : Rel) (t : Tree) → Fits n r t → Means n t r
 fits-means n r t f =
-    record
-    { spans = holds-spans n t (good-once r t (f .good)) (f .holds)
-    ; agrees = λ u v p q. good-agrees r t (f .good) u v (f .holds .outside u p) (f .holds .outside v q)
+    record {
+      spans = holds-spans n t (good-once r t (f .good)) (f .holds);
+      agrees = λ u v p q. good-agrees r t (f .good) u v (f .holds .outside u p) (f .holds .outside v q);
     }

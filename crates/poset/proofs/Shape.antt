@@ -10,7 +10,7 @@ use native.Mathlib.Omega.{arith}
 use Rattle.poset.specs.Lists.{member, count}
 use Rattle.poset.specs.Order.{Rel, comparable, incomparable}
 use Rattle.poset.specs.Tree.{Kind, series, parallel, Tree, leaf, node, Forest, last, more, leaves, forestLeaves, across, precedes, forestPrecedes, Spans, Means}
-use Rattle.poset.proofs.Standing.{near, other, Stands, near-sym, stands-near, stands-apart, stands-differ}
+use Rattle.poset.proofs.Standing.{near, other, Stands, isSeries, near-sym, stands-near, stands-apart, stands-differ}
 use Rattle.poset.proofs.Laws.{decided, clash, false-unless, T-true, true-T, and-left, and-right, and-intro, or-cases, or-left, or-right, or-middle, or-last, not-true, not-false, eqb-true, eqb-same, eqb-differ, member-mem, mem-member, count-zero, count-mem, mem-count, count-append}
 
 -- the jobs of a tree
@@ -34,6 +34,7 @@ append-in xs f g m = ⊎-elim (λ h. inl (f h)) (λ h. inr (g h)) (List·Memᴰ�
 
 mutual
   unfolding leaves
+
   pub in-leaves : (t : Tree) {u : ℕ} → In t u → List·Memᴰ u (leaves t)
   in-leaves (leaf j) h = List·Memᴰ·head h
   in-leaves (node k t f) h = in-append (λ m. in-leaves t m) (λ m. in-forestLeaves f m) h
@@ -44,6 +45,7 @@ mutual
 
 mutual
   unfolding leaves
+
   pub leaves-in : (t : Tree) {u : ℕ} → List·Memᴰ u (leaves t) → In t u
   leaves-in (leaf j) m = List·Memᴰ·eq-of-singleton m
   leaves-in (node k t f) m = append-in (leaves t) (λ h. leaves-in t h) (λ h. forestLeaves-in f h) m
@@ -90,7 +92,6 @@ abbrev mutual
   GoodForest r k (last t) = Good r t
   GoodForest r k (more t f) = Good r t × GoodForest r k f × Across r k t f
 
-
 mutual
   pub good-once : (r : Rel) (t : Tree) → Good r t → Once t
   good-once r (leaf j) g = tt
@@ -130,6 +131,7 @@ group-in k t f u v inT inF h =
 
 mutual
   unfolding precedes
+
   pub precedes-in : (t : Tree) (u v : ℕ) → precedes t u v ≡ true → In t u × In t v
   precedes-in (leaf j) u v h = absurd (clash h refl)
   precedes-in (node k t f) u v h = group-in k t f u v (λ p. precedes-in t u v p) (λ p. forestPrecedes-in k f u v p) h
@@ -137,10 +139,6 @@ mutual
   pub forestPrecedes-in : (k : Kind) (f : Forest) (u v : ℕ) → forestPrecedes k f u v ≡ true → InForest f u × InForest f v
   forestPrecedes-in k (last t) u v h = precedes-in t u v h
   forestPrecedes-in k (more t f) u v h = group-in k t f u v (λ p. precedes-in t u v p) (λ p. forestPrecedes-in k f u v p) h
-
-abbrev pub isSeries : Kind → Bool
-isSeries series = true
-isSeries parallel = false
 
 module _ (k : Kind) (t : Tree) (f : Forest) (apart : Apart t f) (u v : ℕ) where
   not-across : (In t u → InForest f v → ⊥) → across k t f u v ≡ false

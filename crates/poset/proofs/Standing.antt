@@ -1,13 +1,26 @@
 -- How two jobs stand to each other, and what that means for a group of either kind.
 use Prim.Native.Nat.{ℕ}
 use mathlib.Core.Path.{_≡_, refl, sym, ap, ap₂, _∙_}
-use mathlib.Core.Bool.{true, false, _&&_, _||_, not}
+use mathlib.Core.Bool.{Bool, true, false, _&&_, _||_, not}
 use mathlib.Core.Logic.{_⊎_, inl, inr, ⊎-elim}
 use lib.Dec.{eqb}
 use Rattle.poset.specs.Order.{Rel, comparable, incomparable}
 use Rattle.poset.specs.Tree.{Kind, series, parallel}
 use Rattle.poset.proofs.Laws.{
-  decided, clash, false-unless, and-left, and-right, and-intro, or-cases, or-left, or-right, not-true, not-false, eqb-true, eqb-same, eqb-differ,
+  decided,
+  clash,
+  false-unless,
+  and-left,
+  and-right,
+  and-intro,
+  or-cases,
+  or-left,
+  or-right,
+  not-true,
+  not-false,
+  eqb-true,
+  eqb-same,
+  eqb-differ,
 }
 
 pub record Free (r : Rel) (u v : ℕ) : Type 0 where
@@ -19,10 +32,10 @@ pub free : (r : Rel) (u v : ℕ) → incomparable r u v ≡ true → Free r u v
 unfolding incomparable
 free r u v h =
     let neither = and-right (not (eqb u v)) (not (r u v) && not (r v u)) h in
-    record
-    { differ = λ e. clash (ap (eqb u) (sym e) ∙ eqb-same u) (not-true (eqb u v) (and-left (not (eqb u v)) (not (r u v) && not (r v u)) h))
-    ; forth = not-true (r u v) (and-left (not (r u v)) (not (r v u)) neither)
-    ; back = not-true (r v u) (and-right (not (r u v)) (not (r v u)) neither)
+    record {
+      differ = λ e. clash (ap (eqb u) (sym e) ∙ eqb-same u) (not-true (eqb u v) (and-left (not (eqb u v)) (not (r u v) && not (r v u)) h));
+      forth = not-true (r u v) (and-left (not (r u v)) (not (r v u)) neither);
+      back = not-true (r v u) (and-right (not (r u v)) (not (r v u)) neither);
     }
 
 pub is-free : (r : Rel) (u v : ℕ) → Free r u v → incomparable r u v ≡ true
@@ -43,6 +56,9 @@ unfolding comparable
 is-tied r u v (inl h) = or-left (r u v) (r v u) h
 is-tied r u v (inr h) = or-right (r u v) (r v u) h
 
+pub free-sym : (r : Rel) (u v : ℕ) → Free r u v → Free r v u
+free-sym r u v f = record { differ = λ e. f .differ (sym e); forth = f .back; back = f .forth }
+
 -- jobs that are near under a kind stay in one child of a group of that kind
 abbrev pub near : Kind → Rel → Rel
 near series r = incomparable r
@@ -58,9 +74,7 @@ Stands series r u v = (r u v ≡ true) × (r v u ≡ false)
 Stands parallel r u v = Free r u v
 
 pub near-sym : (k : Kind) (r : Rel) (u v : ℕ) → near k r u v ≡ true → near k r v u ≡ true
-near-sym series r u v h =
-    let f = free r u v h in
-    is-free r v u (record { differ = λ e. f .differ (sym e); forth = f .back; back = f .forth })
+near-sym series r u v h = is-free r v u (free-sym r u v (free r u v h))
 near-sym parallel r u v h = is-tied r v u (⊎-elim (λ p. inr p) (λ p. inl p) (tied r u v h))
 
 -- near under both kinds at once is impossible
@@ -80,10 +94,10 @@ near-either series r u v d h =
     (decided (r u v))
 near-either parallel r u v d h =
     is-free r u v
-    (record
-    { differ = d
-    ; forth = false-unless (r u v) (λ p. clash (is-tied r u v (inl p)) h)
-    ; back = false-unless (r v u) (λ p. clash (is-tied r u v (inr p)) h)
+    (record {
+      differ = d;
+      forth = false-unless (r u v) (λ p. clash (is-tied r u v (inl p)) h);
+      back = false-unless (r v u) (λ p. clash (is-tied r u v (inr p)) h);
     })
 
 pub stands-near : (k : Kind) (r : Rel) (u v : ℕ) → Stands k r u v → near (other k) r u v ≡ true
@@ -96,3 +110,17 @@ stands-apart k r u v s h = near-other k r u v h (stands-near k r u v s)
 pub stands-differ : (k : Kind) (r : Rel) (u v : ℕ) → Stands k r u v → u ≡ v → ⊥
 stands-differ series r u v s e = clash (s .0) (ap₂ r e (sym e) ∙ s .1)
 stands-differ parallel r u v s e = s .differ e
+
+-- of a job in an earlier child and one in a later, only the first can be before the other, and in a series group it is
+
+abbrev pub isSeries : Kind → Bool
+isSeries series = true
+isSeries parallel = false
+
+pub stands-forth : (k : Kind) (r : Rel) (u v : ℕ) → Stands k r u v → r u v ≡ isSeries k
+stands-forth series r u v s = s .0
+stands-forth parallel r u v s = s .forth
+
+pub stands-back : (k : Kind) (r : Rel) (u v : ℕ) → Stands k r u v → r v u ≡ false
+stands-back series r u v s = s .1
+stands-back parallel r u v s = s .back
