@@ -4,3 +4,4 @@ pub mod Shape
 pub mod Meaning
 pub mod Forbidden
 pub mod Linked
+pub mod Bound
