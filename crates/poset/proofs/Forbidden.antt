@@ -130,7 +130,7 @@ module _ (r : Rel) (k : Kind) (t : Tree) (f : Forest) (x : Across r k t f) (u v 
 abbrev FourIn : (ℕ → Type 0) → ℕ → ℕ → ℕ → ℕ → Type 0
 FourIn S a b c d = S a × S b × S c × S d
 
-abbrev InGroup : Tree → Forest → ℕ → Type 0
+abbrev pub InGroup : Tree → Forest → ℕ → Type 0
 InGroup t f u = In t u ⊎ InForest f u
 
 -- each of four jobs is near the next: all are in one part

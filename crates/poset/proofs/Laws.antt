@@ -1,5 +1,5 @@
 -- Laws of tests and of the small functions on lists.
-use Prim.Native.Nat.{ℕ, zero, suc, _+_, _*_, _≤_, _<_}
+use Prim.Native.Nat.{ℕ, zero, suc, _+_, _*_, _≤_, _<_, min}
 use mathlib.Core.Path.{_≡_, refl, sym, ap, subst, _∙_}
 use mathlib.Core.List.{List, [], _∷_, _++_, List·Memᴰ, List·Memᴰ·head, List·Memᴰ·tail, List·Memᴰ·cases-cons, List·Memᴰ·not-nil, Memᴰ·cast}
 use mathlib.Core.List.{flatMap, List·Memᴰ·eq-of-singleton}
@@ -89,6 +89,9 @@ ltb-true u v h = ltb→lt u v (true-T _ h)
 
 pub lt-true : (u v : ℕ) → u < v → ltb u v ≡ true
 lt-true u v h = T-true _ (lt→ltb u v h)
+
+pub min-either : (a b : ℕ) → (min a b ≡ a) ⊎ (min a b ≡ b)
+min-either a b = elim (decLe a b) [ yes h ↦ inl (omega arith) | no h ↦ inr (omega arith) ]
 
 -- lists: what each function does with one element more
 

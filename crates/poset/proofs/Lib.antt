@@ -5,3 +5,4 @@ pub mod Meaning
 pub mod Forbidden
 pub mod Linked
 pub mod Bound
+pub mod Unique
