@@ -1,10 +1,11 @@
 -- Laws of tests and of the small functions on lists.
 use Prim.Native.Nat.{ℕ, zero, suc, _+_, _≤_, _<_}
 use mathlib.Core.Path.{_≡_, refl, sym, ap, subst, _∙_}
-use mathlib.Core.List.{List, [], _∷_, _++_, List·Memᴰ, List·Memᴰ·head, List·Memᴰ·tail, List·Memᴰ·cases-cons, List·Memᴰ·not-nil, Memᴰ·cast}
+use mathlib.Core.List.{List, [], _∷_, _++_, flatMap, List·Memᴰ, List·Memᴰ·head, List·Memᴰ·tail, List·Memᴰ·cases-cons, List·Memᴰ·not-nil, Memᴰ·cast}
+use mathlib.Core.List.{Memᴰ·append-left, Memᴰ·append-right, List·Memᴰ·append-cases}
 use native.Mathlib.Nat.{eq-or-lt-of-le}
 use mathlib.Core.Bool.{Bool, true, false, _&&_, _||_, not, true≢false}
-use mathlib.Core.Option.{Option, none, some}
+use mathlib.Core.Option.{Option, none, some, Option·some-injective, Option·some-ne-none}
 use mathlib.Core.Logic.{_⊎_, inl, inr, ⊎-elim, _↔_, _≢_}
 use lib.Dec.{eqb, ltb, T, eqb→eq, eqb-refl, lt→ltb, ltb→lt}
 use native.Mathlib.Omega.{arith}
@@ -223,3 +224,46 @@ below-mem {n} {u} h = upFrom-mem 0 n u (omega arith) (omega arith)
 pub mem-below : (n : ℕ) {u : ℕ} → List·Memᴰ u (below n) → u < n
 unfolding below
 mem-below n m = let b = mem-upFrom 0 n m in omega arith
+
+-- equal tests
+
+pub same-test : (a b : Bool) → (a ≡ true → b ≡ true) → (b ≡ true → a ≡ true) → a ≡ b
+same-test true b f g = sym (f refl)
+same-test false b f g = sym (false-unless b (λ e. clash (g e) refl))
+
+-- what may be found
+
+module _ {ℓ} {A : Type ℓ} where
+  pub found-or-none : (o : Option A) → ((a : A) × (o ≡ some a)) ⊎ (o ≡ none)
+  found-or-none (some a) = inl (a, refl)
+  found-or-none none = inr refl
+
+  pub found-clash : {o : Option A} {a : A} → o ≡ some a → o ≡ none → ⊥
+  found-clash {a} p q = Option·some-ne-none a (sym p ∙ q)
+
+  pub only-if-some : (b : Bool) {a c : A} → onlyIf b a ≡ some c → (b ≡ true) × (a ≡ c)
+  unfolding onlyIf
+  only-if-some true {a} {c} h = (refl, Option·some-injective a c h)
+  only-if-some false h = absurd (found-clash h refl)
+
+  pub only-if-none : (b : Bool) (a : A) → (onlyIf b a ≡ none) ↔ (b ≡ false)
+  unfolding onlyIf
+  only-if-none true a = (λ h. absurd (found-clash refl h), λ h. absurd (clash refl h))
+  only-if-none false a = (λ _. refl, λ _. refl)
+
+-- lists joined end to end
+
+module _ {ℓ κ} {A : Type ℓ} {B : Type κ} (f : A → List B) where
+  pub flatMap-mem : {x : A} {xs : List A} {y : B} → List·Memᴰ x xs → List·Memᴰ y (f x) → List·Memᴰ y (flatMap f xs)
+  unfolding flatMap
+  flatMap-mem {y} (List·Memᴰ·head {xs = xs} e) m = Memᴰ·append-left (flatMap f xs) (subst (λ (z : A). List·Memᴰ y (f z)) e m)
+  flatMap-mem (List·Memᴰ·tail {x = z} m′) m = Memᴰ·append-right (f z) (flatMap-mem m′ m)
+
+  pub mem-flatMap : (xs : List A) {y : B} → List·Memᴰ y (flatMap f xs) → (x : A) × List·Memᴰ x xs × List·Memᴰ y (f x)
+  unfolding flatMap
+  mem-flatMap [] m = absurd (List·Memᴰ·not-nil m)
+  mem-flatMap (x ∷ xs) {y} m =
+      ⊎-elim
+      (λ (m′ : List·Memᴰ y (f x)). (x, List·Memᴰ·head refl, m′))
+      (λ (m′ : List·Memᴰ y (flatMap f xs)). let r = mem-flatMap xs m′ in (r .0, List·Memᴰ·tail (r .1), r .2))
+      (List·Memᴰ·append-cases (f x) m)

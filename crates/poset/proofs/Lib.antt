@@ -1,1 +1,4 @@
 pub mod Laws
+pub mod Searches
+pub mod Closure
+pub mod Reduction
