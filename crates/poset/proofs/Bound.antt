@@ -10,7 +10,7 @@ use lib.ListN.{length, length-map}
 use Rattle.poset.specs.Lists.{below}
 use Rattle.poset.specs.Order.{Rel, Strict, comparable, covers, reduction}
 use Rattle.poset.proofs.Laws.{clash, and-left, and-right, and-intro, or-cases, not-true, any-hit, mem-below, below-mem}
-use Rattle.poset.proofs.Laws.{bit, sum, sum-le, sum-add, sum-scale, sum-const, sum-pairs, Top, largest, length-keep, length-flatMap, length-below}
+use Rattle.poset.proofs.Sums.{bit, sum, sum-le, sum-add, sum-scale, sum-const, sum-pairs, Top, largest, length-keep, length-flatMap, length-below}
 
 -- numbers and tests
 

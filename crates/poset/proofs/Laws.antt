@@ -1,16 +1,15 @@
 -- Laws of tests and of the small functions on lists.
-use Prim.Native.Nat.{ℕ, zero, suc, _+_, _*_, _≤_, _<_, min}
+use Prim.Native.Nat.{ℕ, zero, suc, _+_, _≤_, _<_, min}
 use mathlib.Core.Path.{_≡_, refl, sym, ap, subst, _∙_}
-use mathlib.Core.List.{List, [], _∷_, _++_, List·Memᴰ, List·Memᴰ·head, List·Memᴰ·tail, List·Memᴰ·cases-cons, List·Memᴰ·not-nil, Memᴰ·cast}
-use mathlib.Core.List.{flatMap, List·Memᴰ·eq-of-singleton}
+use mathlib.Core.List.{List, [], _∷_, _++_, flatMap, List·Memᴰ, List·Memᴰ·head, List·Memᴰ·tail, List·Memᴰ·cases-cons, List·Memᴰ·not-nil, Memᴰ·cast}
+use mathlib.Core.List.{Memᴰ·append-left, Memᴰ·append-right, List·Memᴰ·append-cases}
+use mathlib.Core.Bool.{Bool, true, false, _&&_, _||_, not, true≢false}
+use mathlib.Core.Option.{Option, none, some, Option·some-injective, Option·some-ne-none}
+use mathlib.Core.Logic.{_⊎_, inl, inr, ⊎-elim}
 use native.Mathlib.Nat.{eq-or-lt-of-le}
 use native.Mathlib.Decide.{decLe}
-use mathlib.Core.Bool.{Bool, true, false, _&&_, _||_, not, cond, true≢false}
-use mathlib.Core.Option.{Option, none, some}
-use mathlib.Core.Logic.{_⊎_, inl, inr, ⊎-elim, _↔_, _≢_}
-use lib.Dec.{eqb, ltb, T, eqb→eq, eqb-refl, lt→ltb, ltb→lt}
-use lib.ListN.{length, length-append}
 use native.Mathlib.Omega.{arith}
+use lib.Dec.{eqb, ltb, T, eqb→eq, eqb-refl, lt→ltb, ltb→lt}
 use Rattle.poset.specs.Lists.{any, keep, member, count, upFrom, below, first, onlyIf}
 
 -- tests
@@ -247,90 +246,45 @@ pub mem-below : (n : ℕ) {u : ℕ} → List·Memᴰ u (below n) → u < n
 unfolding below
 mem-below n m = let b = mem-upFrom 0 n m in omega arith
 
--- lengths, and sums over a list
+-- equal tests
 
--- 1 for a test that passes, 0 for one that fails
-abbrev pub bit : Bool → ℕ
-bit b = cond b 1 0
+pub same-test : (a b : Bool) → (a ≡ true → b ≡ true) → (b ≡ true → a ≡ true) → a ≡ b
+same-test true b f g = sym (f refl)
+same-test false b f g = sym (false-unless b (λ e. clash (g e) refl))
+
+-- what may be found
 
 module _ {ℓ} {A : Type ℓ} where
-  abbrev pub sum : (A → ℕ) → List A → ℕ
-  sum f [] = 0
-  sum f (x ∷ xs) = f x + sum f xs
+  pub found-or-none : (o : Option A) → ((a : A) × (o ≡ some a)) ⊎ (o ≡ none)
+  found-or-none (some a) = inl (a, refl)
+  found-or-none none = inr refl
 
-  pub sum-le : (f g : A → ℕ) (xs : List A) → ((x : A) → List·Memᴰ x xs → f x ≤ g x) → sum f xs ≤ sum g xs
-  sum-le f g [] h = omega arith
-  sum-le f g (x ∷ xs) h = omega (arith, h x (List·Memᴰ·head refl), sum-le f g xs (λ y m. h y (List·Memᴰ·tail m)))
+  pub found-clash : {o : Option A} {a : A} → o ≡ some a → o ≡ none → ⊥
+  found-clash {a} p q = Option·some-ne-none a (sym p ∙ q)
 
-  pub sum-add : (f g : A → ℕ) (xs : List A) → sum (λ x. f x + g x) xs ≡ sum f xs + sum g xs
-  sum-add f g [] = omega arith
-  sum-add f g (x ∷ xs) = omega (arith, sum-add f g xs)
+  pub only-if-some : (b : Bool) {a c : A} → onlyIf b a ≡ some c → (b ≡ true) × (a ≡ c)
+  unfolding onlyIf
+  only-if-some true {a} {c} h = (refl, Option·some-injective a c h)
+  only-if-some false h = absurd (found-clash h refl)
 
-  pub sum-scale : (k : ℕ) (f : A → ℕ) (xs : List A) → sum (λ x. k * f x) xs ≡ k * sum f xs
-  sum-scale k f [] = omega arith
-  sum-scale k f (x ∷ xs) = omega (arith, sum-scale k f xs)
+  pub only-if-none : (b : Bool) (a : A) → (onlyIf b a ≡ none) ↔ (b ≡ false)
+  unfolding onlyIf
+  only-if-none true a = (λ h. absurd (found-clash refl h), λ h. absurd (clash refl h))
+  only-if-none false a = (λ _. refl, λ _. refl)
 
-  pub sum-const : (k : ℕ) (xs : List A) → sum (λ x. k) xs ≡ k * length xs
-  sum-const k [] = omega arith
-  sum-const k (x ∷ xs) = omega (arith, sum-const k xs)
+-- lists joined end to end
 
-  pub length-keep : (p : A → Bool) (xs : List A) → length (keep p xs) ≡ sum (λ x. bit (p x)) xs
-  unfolding keep
-  length-keep p [] = refl
-  length-keep p (x ∷ xs) =
-      ⊎-elim
-      (λ e. rw (keep-yes p x xs e, e) (omega (arith, length-keep p xs)))
-      (λ e. rw (keep-not p x xs e, e) (omega (arith, length-keep p xs)))
-      (decided (p x))
-
-  -- f is nowhere in the list larger than at y
-  abbrev pub Top : (A → ℕ) → A → List A → Type ℓ
-  Top f y xs = (x : A) → List·Memᴰ x xs → f x ≤ f y
-
-  -- a list that is not empty has an element at which f is largest
-  pub largest : (f : A → ℕ) (x : A) (xs : List A) → (y : A) × List·Memᴰ y (x ∷ xs) × Top f y (x ∷ xs)
-  largest f x [] = (x, List·Memᴰ·head refl, λ z m. omega (arith, ap f (List·Memᴰ·eq-of-singleton m)))
-  largest f x (w ∷ ws) =
-      let (y, m, top) = largest f w ws in
-      elim (decLe (f x) (f y)) [
-        | yes l ↦ (y, List·Memᴰ·tail m, over y top y l (omega arith))
-        | no l ↦ (x, List·Memᴰ·head refl, over y top x (omega arith) (omega arith))
-      ]
-    where
-      over : (y : A) → Top f y (w ∷ ws) → (t : A) → f x ≤ f t → f y ≤ f t → Top f t (x ∷ w ∷ ws)
-      over y top t p q z m = ⊎-elim (λ e. omega (arith, ap f e)) (λ k. omega (arith, top z k)) (List·Memᴰ·cases-cons m)
-
-module _ {ℓ κ} {A : Type ℓ} {B : Type κ} where
-  pub sum-swap : (f : A → B → ℕ) (xs : List A) (ys : List B) → sum (λ x. sum (f x) ys) xs ≡ sum (λ y. sum (λ x. f x y) xs) ys
-  sum-swap f [] ys = omega (arith, sum-const 0 ys)
-  sum-swap f (x ∷ xs) ys = omega (arith, sum-swap f xs ys, sum-add (f x) (λ y. sum (λ z. f z y) xs) ys)
-
-  pub length-flatMap : (f : A → List B) (xs : List A) → length (flatMap f xs) ≡ sum (λ x. length (f x)) xs
+module _ {ℓ κ} {A : Type ℓ} {B : Type κ} (f : A → List B) where
+  pub flatMap-mem : {x : A} {xs : List A} {y : B} → List·Memᴰ x xs → List·Memᴰ y (f x) → List·Memᴰ y (flatMap f xs)
   unfolding flatMap
-  length-flatMap f [] = refl
-  length-flatMap f (x ∷ xs) = omega (arith, length-append (f x) (flatMap f xs), length-flatMap f xs)
+  flatMap-mem {y} (List·Memᴰ·head {xs = xs} e) m = Memᴰ·append-left (flatMap f xs) (subst (λ (z : A). List·Memᴰ y (f z)) e m)
+  flatMap-mem (List·Memᴰ·tail {x = z} m′) m = Memᴰ·append-right (f z) (flatMap-mem m′ m)
 
--- a sum over pairs, where each pair is borne by its two elements
-pub sum-pairs {ℓ} : {A : Type ℓ} (a f g : A → A → ℕ) (xs : List A)
-    → ((x y : A) → List·Memᴰ x xs → List·Memᴰ y xs → a x y ≤ f x y + g y x)
-    → sum (λ x. sum (a x) xs) xs ≤ sum (λ x. sum (f x) xs + sum (g x) xs) xs
-sum-pairs {A = A} a f g xs h =
-    omega (
-      arith,
-      sum-le (λ x. sum (a x) xs) (λ x. sum (f x) xs + sum (λ y. g y x) xs) xs row,
-      sum-add (λ x. sum (f x) xs) (λ x. sum (λ y. g y x) xs) xs,
-      sum-swap g xs xs,
-      sum-add (λ x. sum (f x) xs) (λ x. sum (g x) xs) xs,
-    )
-  where
-    row : (x : A) → List·Memᴰ x xs → sum (a x) xs ≤ sum (f x) xs + sum (λ y. g y x) xs
-    row x m = omega (arith, sum-le (a x) (λ y. f x y + g y x) xs (λ y k. h x y m k), sum-add (f x) (λ y. g y x) xs)
-
-pub length-upFrom : (k n : ℕ) → length (upFrom k n) ≡ n
-unfolding upFrom
-length-upFrom k zero = refl
-length-upFrom k (suc n) = ap suc (length-upFrom (suc k) n)
-
-pub length-below : (n : ℕ) → length (below n) ≡ n
-unfolding below
-length-below n = length-upFrom 0 n
+  pub mem-flatMap : (xs : List A) {y : B} → List·Memᴰ y (flatMap f xs) → (x : A) × List·Memᴰ x xs × List·Memᴰ y (f x)
+  unfolding flatMap
+  mem-flatMap [] m = absurd (List·Memᴰ·not-nil m)
+  mem-flatMap (x ∷ xs) {y} m =
+      ⊎-elim
+      (λ (m′ : List·Memᴰ y (f x)). (x, List·Memᴰ·head refl, m′))
+      (λ (m′ : List·Memᴰ y (flatMap f xs)). let r = mem-flatMap xs m′ in (r .0, List·Memᴰ·tail (r .1), r .2))
+      (List·Memᴰ·append-cases (f x) m)

@@ -1,8 +1,12 @@
 pub mod Laws
+pub mod Sums
+pub mod Searches
+pub mod Closure
+pub mod Reduction
+pub mod Bound
 pub mod Standing
 pub mod Shape
 pub mod Meaning
 pub mod Forbidden
 pub mod Linked
-pub mod Bound
 pub mod Unique

@@ -1,0 +1,97 @@
+-- Lengths, and sums over a list.
+use Prim.Native.Nat.{ℕ, zero, suc, _+_, _*_, _≤_}
+use mathlib.Core.Path.{_≡_, refl, ap}
+use mathlib.Core.List.{List, [], _∷_, flatMap, List·Memᴰ, List·Memᴰ·head, List·Memᴰ·tail, List·Memᴰ·cases-cons, List·Memᴰ·eq-of-singleton}
+use mathlib.Core.Bool.{Bool, cond}
+use mathlib.Core.Logic.{⊎-elim}
+use native.Mathlib.Decide.{decLe}
+use native.Mathlib.Omega.{arith}
+use lib.ListN.{length, length-append}
+use Rattle.poset.specs.Lists.{keep, upFrom, below}
+use Rattle.poset.proofs.Laws.{decided, keep-yes, keep-not}
+
+-- 1 for a test that passes, 0 for one that fails
+abbrev pub bit : Bool → ℕ
+bit b = cond b 1 0
+
+module _ {ℓ} {A : Type ℓ} where
+  abbrev pub sum : (A → ℕ) → List A → ℕ
+  sum f [] = 0
+  sum f (x ∷ xs) = f x + sum f xs
+
+  pub sum-le : (f g : A → ℕ) (xs : List A) → ((x : A) → List·Memᴰ x xs → f x ≤ g x) → sum f xs ≤ sum g xs
+  sum-le f g [] h = omega arith
+  sum-le f g (x ∷ xs) h = omega (arith, h x (List·Memᴰ·head refl), sum-le f g xs (λ y m. h y (List·Memᴰ·tail m)))
+
+  pub sum-add : (f g : A → ℕ) (xs : List A) → sum (λ x. f x + g x) xs ≡ sum f xs + sum g xs
+  sum-add f g [] = omega arith
+  sum-add f g (x ∷ xs) = omega (arith, sum-add f g xs)
+
+  pub sum-scale : (k : ℕ) (f : A → ℕ) (xs : List A) → sum (λ x. k * f x) xs ≡ k * sum f xs
+  sum-scale k f [] = omega arith
+  sum-scale k f (x ∷ xs) = omega (arith, sum-scale k f xs)
+
+  pub sum-const : (k : ℕ) (xs : List A) → sum (λ x. k) xs ≡ k * length xs
+  sum-const k [] = omega arith
+  sum-const k (x ∷ xs) = omega (arith, sum-const k xs)
+
+  pub length-keep : (p : A → Bool) (xs : List A) → length (keep p xs) ≡ sum (λ x. bit (p x)) xs
+  unfolding keep
+  length-keep p [] = refl
+  length-keep p (x ∷ xs) =
+      ⊎-elim
+      (λ e. rw (keep-yes p x xs e, e) (omega (arith, length-keep p xs)))
+      (λ e. rw (keep-not p x xs e, e) (omega (arith, length-keep p xs)))
+      (decided (p x))
+
+  -- f is nowhere in the list larger than at y
+  abbrev pub Top : (A → ℕ) → A → List A → Type ℓ
+  Top f y xs = (x : A) → List·Memᴰ x xs → f x ≤ f y
+
+  -- a list that is not empty has an element at which f is largest
+  pub largest : (f : A → ℕ) (x : A) (xs : List A) → (y : A) × List·Memᴰ y (x ∷ xs) × Top f y (x ∷ xs)
+  largest f x [] = (x, List·Memᴰ·head refl, λ z m. omega (arith, ap f (List·Memᴰ·eq-of-singleton m)))
+  largest f x (w ∷ ws) =
+      let (y, m, top) = largest f w ws in
+      elim (decLe (f x) (f y)) [
+        | yes l ↦ (y, List·Memᴰ·tail m, over y top y l (omega arith))
+        | no l ↦ (x, List·Memᴰ·head refl, over y top x (omega arith) (omega arith))
+      ]
+    where
+      over : (y : A) → Top f y (w ∷ ws) → (t : A) → f x ≤ f t → f y ≤ f t → Top f t (x ∷ w ∷ ws)
+      over y top t p q z m = ⊎-elim (λ e. omega (arith, ap f e)) (λ k. omega (arith, top z k)) (List·Memᴰ·cases-cons m)
+
+module _ {ℓ κ} {A : Type ℓ} {B : Type κ} where
+  pub sum-swap : (f : A → B → ℕ) (xs : List A) (ys : List B) → sum (λ x. sum (f x) ys) xs ≡ sum (λ y. sum (λ x. f x y) xs) ys
+  sum-swap f [] ys = omega (arith, sum-const 0 ys)
+  sum-swap f (x ∷ xs) ys = omega (arith, sum-swap f xs ys, sum-add (f x) (λ y. sum (λ z. f z y) xs) ys)
+
+  pub length-flatMap : (f : A → List B) (xs : List A) → length (flatMap f xs) ≡ sum (λ x. length (f x)) xs
+  unfolding flatMap
+  length-flatMap f [] = refl
+  length-flatMap f (x ∷ xs) = omega (arith, length-append (f x) (flatMap f xs), length-flatMap f xs)
+
+-- a sum over pairs, where each pair is borne by its two elements
+pub sum-pairs {ℓ} : {A : Type ℓ} (a f g : A → A → ℕ) (xs : List A)
+    → ((x y : A) → List·Memᴰ x xs → List·Memᴰ y xs → a x y ≤ f x y + g y x)
+    → sum (λ x. sum (a x) xs) xs ≤ sum (λ x. sum (f x) xs + sum (g x) xs) xs
+sum-pairs {A = A} a f g xs h =
+    omega (
+      arith,
+      sum-le (λ x. sum (a x) xs) (λ x. sum (f x) xs + sum (λ y. g y x) xs) xs row,
+      sum-add (λ x. sum (f x) xs) (λ x. sum (λ y. g y x) xs) xs,
+      sum-swap g xs xs,
+      sum-add (λ x. sum (f x) xs) (λ x. sum (g x) xs) xs,
+    )
+  where
+    row : (x : A) → List·Memᴰ x xs → sum (a x) xs ≤ sum (f x) xs + sum (λ y. g y x) xs
+    row x m = omega (arith, sum-le (a x) (λ y. f x y + g y x) xs (λ y k. h x y m k), sum-add (f x) (λ y. g y x) xs)
+
+pub length-upFrom : (k n : ℕ) → length (upFrom k n) ≡ n
+unfolding upFrom
+length-upFrom k zero = refl
+length-upFrom k (suc n) = ap suc (length-upFrom (suc k) n)
+
+pub length-below : (n : ℕ) → length (below n) ≡ n
+unfolding below
+length-below n = length-upFrom 0 n
