@@ -2,14 +2,15 @@
 use Prim.Native.Nat.{ℕ, zero, suc, _+_, _*_, _≤_, _<_}
 use mathlib.Core.Path.{_≡_, refl}
 use mathlib.Core.List.{List, [], _∷_, List·Memᴰ}
-use mathlib.Core.Bool.{Bool, true, false, _&&_, _||_, not}
+use mathlib.Core.Bool.{Bool, true, false, _||_, not}
 use mathlib.Core.Logic.{_⊎_, inl, inr}
 use native.Mathlib.Nat.{mul-le-mul, mul-le-mul-left}
 use native.Mathlib.Omega.{arith}
 use lib.ListN.{length, length-map}
 use Rattle.poset.specs.Lists.{below}
 use Rattle.poset.specs.Order.{Rel, Strict, comparable, covers, reduction}
-use Rattle.poset.proofs.Laws.{clash, and-left, and-right, and-intro, or-cases, not-true, any-hit, mem-below, below-mem}
+use Rattle.poset.proofs.Laws.{clash, or-cases, mem-below}
+use Rattle.poset.proofs.Reduction.{covers-iff}
 use Rattle.poset.proofs.Sums.{bit, sum, sum-le, sum-add, sum-scale, sum-const, sum-pairs, Top, largest, length-keep, length-flatMap, length-below}
 
 -- numbers and tests
@@ -101,13 +102,10 @@ mantel c (j ∷ js) free =
 
 module _ (n : ℕ) (r : Rel) (s : Strict n r) where
   covers-before : {u v : ℕ} → covers n r u v ≡ true → r u v ≡ true
-  unfolding covers
-  covers-before h = and-left _ _ h
+  covers-before {u} {v} h = covers-iff n r u v .0 h .0
 
   covers-next : {u v w : ℕ} → w < n → covers n r u v ≡ true → r u w ≡ true → r w v ≡ true → ⊥
-  unfolding covers
-  covers-next {u} {v} l h p q =
-      clash (any-hit (λ w. r u w && r w v) (below-mem l) (and-intro _ _ p q)) (not-true _ (and-right (r u v) _ h))
+  covers-next {u} {v} {w} l h = covers-iff n r u v .0 h .1 w l
 
   no-cycle : {u v : ℕ} → u < n → v < n → r u v ≡ true → r v u ≡ true → ⊥
   no-cycle {u} {v} k l p q = clash (s .transitive u v u k l k p q) (s .irreflexive u k)

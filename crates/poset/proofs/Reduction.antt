@@ -54,7 +54,7 @@ rows-ascending row s h k (suc n) =
 -- covers
 
 module _ (n : ℕ) (r : Rel) where
-  covers-iff : (u v : ℕ) → (covers n r u v ≡ true) ↔ ((r u v ≡ true) × ((w : ℕ) → w < n → r u w ≡ true → r w v ≡ true → ⊥))
+  pub covers-iff : (u v : ℕ) → (covers n r u v ≡ true) ↔ ((r u v ≡ true) × ((w : ℕ) → w < n → r u w ≡ true → r w v ≡ true → ⊥))
   unfolding covers
   covers-iff u v = (
     λ h.
