@@ -10,3 +10,4 @@ pub mod Meaning
 pub mod Forbidden
 pub mod Linked
 pub mod Unique
+pub mod Components
