@@ -47,12 +47,16 @@ union-linked join turn xs ys lx ly a b pa pb ab L share u v p q h = go (List·Me
   where
     left : Shared join (Of xs) L
     left c d pc pd = share c d (Memᴰ·append-left ys pc) (Memᴰ·append-left ys pd)
+
     right : Shared join (Of ys) L
     right c d pc pd = share c d (Memᴰ·append-right xs pc) (Memᴰ·append-right xs pd)
+
     forth : L a → L b
     forth = share a b (Memᴰ·append-left ys pa) (Memᴰ·append-right xs pb) ab
+
     back : L b → L a
     back = share b a (Memᴰ·append-right xs pb) (Memᴰ·append-left ys pa) (turn a b ab)
+
     go : Of xs u ⊎ Of ys u → Of xs v ⊎ Of ys v → L v
     go (inl p) (inl q) = lx L left u v p q h
     go (inl p) (inr q) = ly L right b v pb q (forth (lx L left u a p pa h))

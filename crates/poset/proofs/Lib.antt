@@ -11,3 +11,4 @@ pub mod Forbidden
 pub mod Linked
 pub mod Unique
 pub mod Components
+pub mod Connected

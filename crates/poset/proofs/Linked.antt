@@ -47,3 +47,8 @@ child-linked r series (node series t f) a g = absurd (clash a refl)
 child-linked r series (node parallel t f) a g = group-linked r parallel t f (g .2)
 child-linked r parallel (node series t f) a g = group-linked r series t f (g .2)
 child-linked r parallel (node parallel t f) a g = absurd (clash a refl)
+
+-- being joined goes by the jobs alone
+pub linked-within : (join : Rel) (S R : ℕ → Type 0) → ((u : ℕ) → S u → R u) → ((u : ℕ) → R u → S u) → Linked join S → Linked join R
+linked-within join S R to from linked L share u v p q h =
+    linked L (λ a b pa pb. share a b (to a pa) (to b pb)) u v (from u p) (from v q) h

@@ -100,6 +100,11 @@ near-either parallel r u v d h =
       back = false-unless (r v u) (λ p. clash (is-tied r u v (inr p)) h);
     })
 
+-- no job is near itself
+pub near-irreflexive : (k : Kind) (r : Rel) (u : ℕ) → r u u ≡ false → near k r u u ≡ true → ⊥
+near-irreflexive series r u e h = free r u u h .differ refl
+near-irreflexive parallel r u e h = ⊎-elim (λ p. clash p e) (λ p. clash p e) (tied r u u h)
+
 pub stands-near : (k : Kind) (r : Rel) (u v : ℕ) → Stands k r u v → near (other k) r u v ≡ true
 stands-near series r u v s = is-tied r u v (inl (s .0))
 stands-near parallel r u v s = is-free r u v s
