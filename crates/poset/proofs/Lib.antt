@@ -5,3 +5,5 @@ pub mod Meaning
 pub mod Forbidden
 pub mod Linked
 pub mod Bound
+pub mod Realizer
+pub mod TreeOrder
