@@ -288,3 +288,14 @@ module _ {ℓ κ} {A : Type ℓ} {B : Type κ} (f : A → List B) where
       (λ (m′ : List·Memᴰ y (f x)). (x, List·Memᴰ·head refl, m′))
       (λ (m′ : List·Memᴰ y (flatMap f xs)). let r = mem-flatMap xs m′ in (r .0, List·Memᴰ·tail (r .1), r .2))
       (List·Memᴰ·append-cases (f x) m)
+
+-- equal counts, and a list in front of another
+
+pub same-count-mem : {u : ℕ} {xs ys : List ℕ} → count u xs ≡ count u ys → List·Memᴰ u xs → List·Memᴰ u ys
+same-count-mem {u} {ys = ys} e m = count-mem u ys (rw e at (mem-count m))
+
+pub any-append {ℓ} : {A : Type ℓ} (p : A → Bool) (xs ys : List A) → any p (xs ++ ys) ≡ (any p xs || any p ys)
+unfolding any
+any-append p [] ys = refl
+any-append p (x ∷ xs) ys =
+    ⊎-elim (λ (e : p x ≡ true). rw (e, any)) (λ (e : p x ≡ false). rw (e, any) (any-append p xs ys)) (decided (p x))

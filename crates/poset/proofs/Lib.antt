@@ -7,6 +7,9 @@ pub mod Bound
 pub mod Standing
 pub mod Shape
 pub mod Meaning
+pub mod TreeOrder
+pub mod Ahead
+pub mod Realizer
 pub mod Forbidden
 pub mod Linked
 pub mod Unique
