@@ -22,8 +22,9 @@ use Rattle.poset.proofs.Standing.{
   stands-forth,
   stands-back,
 }
-use Rattle.poset.proofs.Shape.{In, InForest, Across, Good, GoodForest}
-use Rattle.poset.proofs.Meaning.{Fits, means-fits}
+use Rattle.poset.proofs.Shape.{In, InForest, InGroup, Across, Good, GoodForest}
+use Rattle.poset.proofs.Meaning.{means-fits}
+use Rattle.poset.proofs.Linked.{stay-first, stay-rest}
 
 -- the six facts of an N
 pub record Crossing (r : Rel) (a b c d : ℕ) : Type 0 where
@@ -115,23 +116,9 @@ module _ (n : ℕ) (r : Rel) (strict : Strict n r) where
         qw = x .pq;
       })
 
--- near jobs stay in one part of a group
-
-module _ (r : Rel) (k : Kind) (t : Tree) (f : Forest) (x : Across r k t f) (u v : ℕ) (h : near k r u v ≡ true) where
-  pub stay-first : In t u → In t v ⊎ InForest f v → In t v
-  stay-first p (inl q) = q
-  stay-first p (inr q) = absurd (stands-apart k r u v (x u v p q) h)
-
-  pub stay-rest : InForest f u → In t v ⊎ InForest f v → InForest f v
-  stay-rest p (inl q) = absurd (stands-apart k r v u (x v u q p) (near-sym k r u v h))
-  stay-rest p (inr q) = q
-
 -- four jobs of S
 abbrev FourIn : (ℕ → Type 0) → ℕ → ℕ → ℕ → ℕ → Type 0
 FourIn S a b c d = S a × S b × S c × S d
-
-abbrev pub InGroup : Tree → Forest → ℕ → Type 0
-InGroup t f u = In t u ⊎ InForest f u
 
 -- each of four jobs is near the next: all are in one part
 path-stays : (r : Rel) (k : Kind) (t : Tree) (f : Forest) → Across r k t f → (p q s w : ℕ) → near k r p q ≡ true → near k r q s ≡ true

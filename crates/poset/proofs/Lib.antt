@@ -10,8 +10,9 @@ pub mod Meaning
 pub mod TreeOrder
 pub mod Ahead
 pub mod Realizer
-pub mod Forbidden
 pub mod Linked
+pub mod Forbidden
+pub mod Canonical
 pub mod Unique
 pub mod Components
 pub mod Connected

@@ -6,7 +6,7 @@ use mathlib.Core.Logic.{_⊎_, inl, inr, ⊎-elim}
 use Rattle.poset.specs.Order.{Rel}
 use Rattle.poset.specs.Tree.{Kind, series, parallel, Tree, leaf, node, Forest, last, more, alternates}
 use Rattle.poset.proofs.Laws.{clash}
-use Rattle.poset.proofs.Standing.{near, other, Stands, near-sym, stands-near}
+use Rattle.poset.proofs.Standing.{near, other, Stands, near-sym, stands-near, stands-apart}
 use Rattle.poset.proofs.Shape.{In, InForest, someIn, someInForest, Across, Good, GoodForest}
 
 -- a labelling that near jobs of S share
@@ -38,6 +38,17 @@ group-linked r k t f x L share u v p q h = go p q
     go (inl p) (inr q) = forth u v p q h
     go (inr p) (inl q) = back u v p q h
     go (inr p) (inr q) = let s = someIn t in forth (s .0) v (s .1) q (back u (s .0) p (s .1) h)
+
+-- near jobs stay in one part of a group
+
+module _ (r : Rel) (k : Kind) (t : Tree) (f : Forest) (x : Across r k t f) (u v : ℕ) (h : near k r u v ≡ true) where
+  pub stay-first : In t u → In t v ⊎ InForest f v → In t v
+  stay-first p (inl q) = q
+  stay-first p (inr q) = absurd (stands-apart k r u v (x u v p q) h)
+
+  pub stay-rest : InForest f u → In t v ⊎ InForest f v → InForest f v
+  stay-rest p (inl q) = absurd (stands-apart k r v u (x v u q p) (near-sym k r u v h))
+  stay-rest p (inr q) = q
 
 -- a child that is no group of its parent's kind is joined
 pub child-linked : (r : Rel) (k : Kind) (t : Tree) → alternates k t ≡ true → Good r t → Linked (near k r) (In t)

@@ -24,6 +24,10 @@ abbrev mutual
   InForest (last t) u = In t u
   InForest (more t f) u = In t u ⊎ InForest f u
 
+-- the jobs of a group, by its first child and the others
+abbrev pub InGroup : Tree → Forest → ℕ → Type 0
+InGroup t f u = In t u ⊎ InForest f u
+
 -- a list in front of another holds what one of the two holds
 in-append : {A B : Type 0} {u : ℕ} {xs : List ℕ} {ys : List ℕ} → (A → List·Memᴰ u xs) → (B → List·Memᴰ u ys) → A ⊎ B → List·Memᴰ u (xs ++ ys)
 in-append {ys = ys} f g (inl a) = Memᴰ·append-left ys (f a)

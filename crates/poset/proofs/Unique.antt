@@ -1,130 +1,17 @@
 -- A canonical tree is the only one of its order.
-use Prim.Native.Nat.{ℕ, _≤_, _<_, min}
-use mathlib.Core.Path.{_≡_, refl, sym, ap, ap₂, subst, _∙_}
-use mathlib.Core.Bool.{Bool, true, false, _&&_}
-use mathlib.Core.Logic.{_⊎_, inl, inr, ⊎-elim}
+use Prim.Native.Nat.{ℕ}
+use mathlib.Core.Path.{_≡_, refl, ap, ap₂}
+use mathlib.Core.Bool.{true}
+use mathlib.Core.Logic.{inl, inr, ⊎-elim}
 use native.Mathlib.Omega.{arith}
 use Rattle.poset.specs.Order.{Rel}
-use Rattle.poset.specs.Tree.{
-  Kind,
-  series,
-  parallel,
-  Tree,
-  leaf,
-  node,
-  Forest,
-  last,
-  more,
-  least,
-  forestLeast,
-  alternates,
-  ahead,
-  canonical,
-  forestCanonical,
-  Means,
-}
-use Rattle.poset.proofs.Laws.{clash, and-left, and-right, ltb-true, min-either}
-use Rattle.poset.proofs.Standing.{near, other, stands-apart, stands-back, near-sym}
-use Rattle.poset.proofs.Shape.{
-  In,
-  InForest,
-  someIn,
-  someInForest,
-  Once,
-  OnceForest,
-  Apart,
-  Across,
-  Good,
-  GoodForest,
-  good-once,
-  goodForest-once,
-}
-use Rattle.poset.proofs.Meaning.{Fits, means-fits}
-use Rattle.poset.proofs.Forbidden.{InGroup, stay-first}
-use Rattle.poset.proofs.Linked.{Linked, only, single-linked, group-linked, child-linked}
-
--- canonical form, part by part
-
--- the first child of a parallel group has the smallest job
-abbrev Leads : Kind → Tree → Forest → Type 0
-Leads series t f = Unit {0}
-Leads parallel t f = (v : ℕ) → InForest f v → least t < v
-
-abbrev mutual
-  pub Canon : Tree → Type 0
-  Canon (leaf j) = Unit {0}
-  Canon (node k t f) = (alternates k t ≡ true) × Canon t × CanonForest k f × Leads k t f
-
-  pub CanonForest : Kind → Forest → Type 0
-  CanonForest k (last t) = (alternates k t ≡ true) × Canon t
-  CanonForest k (more t f) = (alternates k t ≡ true) × Canon t × CanonForest k f × Leads k t f
-
--- the smaller of two members of the parts of a group is in the group
-min-in : (t : Tree) (f : Forest) (a b : ℕ) → In t a → InForest f b → InGroup t f (min a b)
-min-in t f a b p q =
-    ⊎-elim (λ e. inl (subst (In t) (sym e) p)) (λ e. inr (subst (InForest f) (sym e) q)) (min-either a b)
-
-mutual
-  unfolding least
-
-  least-in : (t : Tree) → In t (least t)
-  least-in (leaf j) = refl
-  least-in (node k t f) = min-in t f (least t) (forestLeast f) (least-in t) (forestLeast-in f)
-
-  forestLeast-in : (f : Forest) → InForest f (forestLeast f)
-  forestLeast-in (last t) = least-in t
-  forestLeast-in (more t f) = min-in t f (least t) (forestLeast f) (least-in t) (forestLeast-in f)
-
-mutual
-  unfolding least
-
-  least-le : (t : Tree) (v : ℕ) → In t v → least t ≤ v
-  least-le (leaf j) v p = omega arith
-  least-le (node k t f) v (inl p) = omega (arith, least-le t v p)
-  least-le (node k t f) v (inr p) = omega (arith, forestLeast-le f v p)
-
-  forestLeast-le : (f : Forest) (v : ℕ) → InForest f v → forestLeast f ≤ v
-  forestLeast-le (last t) v p = least-le t v p
-  forestLeast-le (more t f) v (inl p) = omega (arith, least-le t v p)
-  forestLeast-le (more t f) v (inr p) = omega (arith, forestLeast-le f v p)
-
-ahead-leads : (k : Kind) (s t : Tree) → ahead k s t ≡ true → Leads k s (last t)
-unfolding ahead
-ahead-leads series s t h = tt
-ahead-leads parallel s t h = λ v p. omega (arith, ltb-true (least s) (least t) h, least-le t v p)
-
-leads-more : (k : Kind) (s t : Tree) (f : Forest) → ahead k s t ≡ true → Leads k t f → Leads k s (more t f)
-unfolding ahead
-leads-more series s t f h l = tt
-leads-more parallel s t f h l =
-    λ v.
-    ⊎-elim
-    (λ p. omega (arith, ltb-true (least s) (least t) h, least-le t v p))
-    (λ p. omega (arith, ltb-true (least s) (least t) h, l v p))
-
-mutual
-  unfolding canonical
-
-  canon : (t : Tree) → canonical t ≡ true → Canon t
-  canon (leaf j) h = tt
-  canon (node k t f) h =
-      let h₁ = and-right (alternates k t) _ h in
-      let c = canonForest k t f (and-right (canonical t) _ h₁) in
-      (and-left (alternates k t) _ h, canon t (and-left (canonical t) _ h₁), c .0, c .1)
-
-  canonForest : (k : Kind) (s : Tree) (f : Forest) → forestCanonical k s f ≡ true → CanonForest k f × Leads k s f
-  canonForest k s (last t) h =
-      let h₁ = and-right (alternates k t) _ h in (
-        (and-left (alternates k t) _ h, canon t (and-left (canonical t) _ h₁)),
-        ahead-leads k s t (and-right (canonical t) _ h₁),
-      )
-  canonForest k s (more t f) h =
-      let h₁ = and-right (alternates k t) _ h in
-      let h₂ = and-right (canonical t) _ h₁ in
-      let c = canonForest k t f (and-right (ahead k s t) _ h₂) in (
-        (and-left (alternates k t) _ h, canon t (and-left (canonical t) _ h₁), c .0, c .1),
-        leads-more k s t f (and-left (ahead k s t) _ h₂) (c .1),
-      )
+use Rattle.poset.specs.Tree.{Kind, series, parallel, Tree, leaf, node, Forest, last, more, least, alternates, canonical, Means}
+use Rattle.poset.proofs.Laws.{clash}
+use Rattle.poset.proofs.Standing.{near}
+use Rattle.poset.proofs.Shape.{In, InForest, InGroup, someIn, someInForest, Apart, Across, Good, GoodForest, good-once, goodForest-once}
+use Rattle.poset.proofs.Canonical.{Leads, Canon, CanonForest, least-in, canon}
+use Rattle.poset.proofs.Meaning.{means-fits}
+use Rattle.poset.proofs.Linked.{Linked, only, stay-first, single-linked, group-linked, child-linked}
 
 -- two trees of one order
 
@@ -172,7 +59,7 @@ module _ (r : Rel) where
       (c .0) v (c .1) p (c .2)
 
   -- a joined tree is no group of its kind
-  no-split : (k : Kind) (s t : Tree) (g : Forest) → Linked (near k r) (In s) → Across r k t g → Apart t g → Same (In s) (InGroup t g) → ⊥
+  pub no-split : (k : Kind) (s t : Tree) (g : Forest) → Linked (near k r) (In s) → Across r k t g → Apart t g → Same (In s) (InGroup t g) → ⊥
   no-split k s t g l x apart e =
       let a = someIn t in
       let b = someInForest g in
