@@ -22,6 +22,7 @@ use Rattle.poset.proofs.Standing.{
   stands-forth,
   stands-back,
 }
+use Rattle.poset.proofs.Standing.{forced}
 use Rattle.poset.proofs.Shape.{In, InForest, InGroup, Across, Good, GoodForest}
 use Rattle.poset.proofs.Meaning.{means-fits}
 use Rattle.poset.proofs.Linked.{stay-first, stay-rest}
@@ -68,10 +69,6 @@ pub record PathOfFour (k : Kind) (r : Rel) (p q s w : ℕ) : Type 0 where
   pub ps : near (other k) r p s ≡ true
   pub pw : near (other k) r p w ≡ true
   pub qw : near (other k) r q w ≡ true
-
--- of two comparable jobs that are not one way round, the other way round holds
-forced : (r : Rel) (u v : ℕ) → comparable r u v ≡ true → (r u v ≡ true → ⊥) → r v u ≡ true
-forced r u v c h = ⊎-elim (λ p. absurd (h p)) (λ p. p) (tied r u v c)
 
 module _ (n : ℕ) (r : Rel) (strict : Strict n r) where
   -- along a path of comparable jobs the directions alternate

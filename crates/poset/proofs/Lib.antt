@@ -16,3 +16,6 @@ pub mod Canonical
 pub mod Unique
 pub mod Components
 pub mod Connected
+pub mod Laying
+pub mod Decomposition
+pub mod Theorems

@@ -56,6 +56,10 @@ unfolding comparable
 is-tied r u v (inl h) = or-left (r u v) (r v u) h
 is-tied r u v (inr h) = or-right (r u v) (r v u) h
 
+-- of two comparable jobs that are not one way round, the other way round holds
+pub forced : (r : Rel) (u v : ℕ) → comparable r u v ≡ true → (r u v ≡ true → ⊥) → r v u ≡ true
+forced r u v c h = ⊎-elim (λ p. absurd (h p)) (λ p. p) (tied r u v c)
+
 pub free-sym : (r : Rel) (u v : ℕ) → Free r u v → Free r v u
 free-sym r u v f = record { differ = λ e. f .differ (sym e); forth = f .back; back = f .forth }
 

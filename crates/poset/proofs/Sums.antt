@@ -1,8 +1,8 @@
 -- Lengths, and sums over a list.
-use Prim.Native.Nat.{ℕ, zero, suc, _+_, _*_, _≤_}
-use mathlib.Core.Path.{_≡_, refl, ap}
+use Prim.Native.Nat.{ℕ, zero, suc, _+_, _*_, _≤_, _<_}
+use mathlib.Core.Path.{_≡_, refl, sym, ap, _∙_}
 use mathlib.Core.List.{List, [], _∷_, flatMap, List·Memᴰ, List·Memᴰ·head, List·Memᴰ·tail, List·Memᴰ·cases-cons, List·Memᴰ·eq-of-singleton}
-use mathlib.Core.Bool.{Bool, cond}
+use mathlib.Core.Bool.{Bool, false, cond}
 use mathlib.Core.Logic.{⊎-elim}
 use native.Mathlib.Decide.{decLe}
 use native.Mathlib.Omega.{arith}
@@ -42,6 +42,24 @@ module _ {ℓ} {A : Type ℓ} where
       ⊎-elim
       (λ e. rw (keep-yes p x xs e, e) (omega (arith, length-keep p xs)))
       (λ e. rw (keep-not p x xs e, e) (omega (arith, length-keep p xs)))
+      (decided (p x))
+
+  pub length-keep-le : (p : A → Bool) (xs : List A) → length (keep p xs) ≤ length xs
+  unfolding keep
+  length-keep-le p [] = omega arith
+  length-keep-le p (x ∷ xs) =
+      ⊎-elim
+      (λ e. rw (keep-yes p x xs e) (omega (arith, length-keep-le p xs)))
+      (λ e. rw (keep-not p x xs e) (omega (arith, length-keep-le p xs)))
+      (decided (p x))
+
+  pub length-keep-lt : (p : A → Bool) {y : A} {xs : List A} → List·Memᴰ y xs → p y ≡ false → length (keep p xs) < length xs
+  length-keep-lt p (List·Memᴰ·head {x = x} {xs = xs} e) h =
+      rw (keep-not p x xs (ap p (sym e) ∙ h)) (omega (arith, length-keep-le p xs))
+  length-keep-lt p (List·Memᴰ·tail {x = x} {xs = xs} m) h =
+      ⊎-elim
+      (λ e. rw (keep-yes p x xs e) (omega (arith, length-keep-lt p m h)))
+      (λ e. rw (keep-not p x xs e) (omega (arith, length-keep-lt p m h)))
       (decided (p x))
 
   -- f is nowhere in the list larger than at y
