@@ -8,7 +8,7 @@ use native.Mathlib.Nat.{mul-le-mul, mul-le-mul-left}
 use native.Mathlib.Omega.{arith}
 use lib.ListN.{length, length-map}
 use Rattle.poset.specs.Lists.{below}
-use Rattle.poset.specs.Order.{Rel, Strict, comparable, covers, reduction}
+use Rattle.poset.specs.Order.{Rel, Strict, comparable, covers, pairsOf, reduction}
 use Rattle.poset.proofs.Laws.{clash, or-cases, mem-below}
 use Rattle.poset.proofs.Reduction.{covers-iff}
 use Rattle.poset.proofs.Sums.{bit, sum, sum-le, sum-add, sum-scale, sum-const, sum-pairs, Top, largest, length-keep, length-flatMap, length-below}
@@ -127,7 +127,7 @@ module _ (n : ℕ) (r : Rel) (s : Strict n r) where
   }
 
 pub reduction-bound : (n : ℕ) (r : Rel) → Strict n r → 4 * length (reduction n r) ≤ n * n
-unfolding reduction edges
+unfolding reduction pairsOf edges
 reduction-bound n r s = simp (length-flatMap, length-map, length-keep) (simp length-below at (mantel (covers n r) (below n) (covers-free n r s)))
 
 pub reduction-fits : (n : ℕ) (r : Rel) → n ≤ 128 → Strict n r → length (reduction n r) ≤ 4096

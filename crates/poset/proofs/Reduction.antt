@@ -7,7 +7,7 @@ use mathlib.Core.Bool.{Bool, true, _&&_}
 use mathlib.Core.Logic.{inl, inr, ⊎-elim, _↔_, _≢_}
 use native.Mathlib.Omega.{arith}
 use Rattle.poset.specs.Lists.{keep, upFrom, below}
-use Rattle.poset.specs.Order.{Rel, Arc, Strict, arc, before, covers, reduction, SmallerArc, Ascending, empty, single, next}
+use Rattle.poset.specs.Order.{Rel, Arc, Strict, arc, before, covers, pairsOf, reduction, SmallerArc, Ascending, empty, single, next}
 use Rattle.poset.proofs.Laws.{decided, clash, false-unless, and-left, and-right, and-intro, not-true, not-false, same-test, any-miss, any-none}
 use Rattle.poset.proofs.Laws.{keep-yes, keep-not, keep-mem, mem-keep, mem-upFrom, below-mem, mem-below, flatMap-mem, mem-flatMap}
 use Rattle.poset.proofs.Closure.{via-base, via-trans, via-ind, via-split, arc-mem}
@@ -81,7 +81,7 @@ module _ (n : ℕ) (r : Rel) where
       : ((u v : ℕ) → List·Memᴰ (u, v) (reduction n r)
       ↔ ((u < n) × (v < n) × (r u v ≡ true) × ((w : ℕ) → w < n → r u w ≡ true → r w v ≡ true → ⊥)))
       × Ascending (reduction n r)
-  unfolding reduction row below
+  unfolding reduction pairsOf row below
   reduction-is-covers = (
     λ u v. (
       λ m.

@@ -90,9 +90,13 @@ SmallerFour p q =
 unfoldable pub covers : ℕ → Rel → Rel
 covers n r u v = r u v && not (any (λ w. r u w && r w v) (below n))
 
--- the transitive reduction, by first job, then second (Document 01: the reduced orders)
+-- the pairs of a relation among the jobs below n, by first job, then second
+unfoldable pub pairsOf : ℕ → Rel → List Arc
+pairsOf n r = flatMap (λ u. map (λ v. (u, v)) (keep (r u) (below n))) (below n)
+
+-- the transitive reduction (Document 01: the reduced orders)
 unfoldable pub reduction : ℕ → Rel → List Arc
-reduction n r = flatMap (λ u. map (λ v. (u, v)) (keep (covers n r u) (below n))) (below n)
+reduction n r = pairsOf n (covers n r)
 
 -- each arc of a list is smaller than the next
 pub data Ascending : List Arc → Type 0 where
