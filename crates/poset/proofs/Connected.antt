@@ -149,7 +149,10 @@ module _ (n : ℕ) (r : Rel) (strict : Strict n r) where
     one-part : (y : ℕ) → Of xs y → (bs : List Block) → ComponentsOf k r xs bs
         → Linked (near k r) (Of (x ∷ xs)) → Linked (near (other k) r) (Of (x ∷ xs)) → Linked (near k r) (Of xs) ⊎ HasN n r
     one-part y m [] cs linked linked′ = absurd (cs .onto y m)
-    one-part y m (b ∷ []) cs linked linked′ = inl (linked-within (near k r) (Of b) (Of xs) (λ u p. cs .from u (inl p)) (λ u p. ⊎-elim (λ q. q) (λ q. absurd q) (cs .onto u p)) (cs .parts .0 .linked))
+    one-part y m (b ∷ []) cs linked linked′ =
+        inl
+        (linked-within (near k r) (Of b) (Of xs) (λ u p. cs .from u (inl p)) (λ u p. ⊎-elim (λ q. q) (λ q. absurd q) (cs .onto u p))
+        (cs .parts .0 .linked))
     one-part y m (b ∷ c ∷ bs) cs linked linked′ = inr (two-parts b c bs cs linked linked′)
 
   -- one job fewer
@@ -166,7 +169,9 @@ module _ (n : ℕ) (r : Rel) (strict : Strict n r) where
     where
       next-to : (k : Kind) → near k r y x ≡ true
       next-to k =
-          let t = touches (near k r) x (y ∷ []) (fresh k x (y ∷ []) sorted small) (linked k) (Of (y ∷ [])) (λ u m. m) (λ u v _ m _. m) y (List·Memᴰ·head refl) in
+          let ys = y ∷ [] in
+          let new = fresh k x ys sorted small in
+          let t = touches (near k r) x ys new (linked k) (Of ys) (λ u m. m) (λ u v _ m _. m) y (List·Memᴰ·head refl) in
           ap (λ u. near k r u x) (sym (List·Memᴰ·eq-of-singleton (t .1))) ∙ t .2
   connected-n x y (z ∷ zs) sorted small linked =
       fewer x y (z ∷ zs) sorted small linked (λ l. connected-n y z zs (sorted .1) (λ u m. small u (List·Memᴰ·tail m)) l)

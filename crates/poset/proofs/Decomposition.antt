@@ -47,7 +47,8 @@ alternating r parallel (node series t f) g l = refl
 alternating r parallel (node parallel t f) g l =
     absurd (no-split r parallel (node parallel t f) t f l (g .2) (good-once r (node parallel t f) g .2) (λ u. (λ p. p, λ p. p)))
 
-leading : (k : Kind) (b : Block) (bs : List Block) (t : Tree) (f : Forest) → Ordered k (b ∷ bs) → Same (In t) (Of b) → Same (InForest f) (OfBlocks bs) → Leads k t f
+leading : (k : Kind) (b : Block) (bs : List Block) (t : Tree) (f : Forest) → Ordered k (b ∷ bs) → Same (In t) (Of b)
+    → Same (InForest f) (OfBlocks bs) → Leads k t f
 leading series b bs t f o st sf = tt
 leading parallel b bs t f o st sf =
     λ v p. let (u, m, lower) = o .0 in omega (arith, least-le t u (st u .1 m), lower v (sf v .0 p))

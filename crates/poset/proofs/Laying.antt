@@ -114,8 +114,11 @@ module _ (n : ℕ) (r : Rel) (strict : Strict n r) where
   one-way b c jb jc t h u v p q =
       let lv = jc .small v q in
       let lu = jb .small u p in
-      let uc = all-before (Of b) (jb .small) (jb .linked) (getD c 0 0) (jc .small _ (jc .first)) (λ a m. t a (getD c 0 0) m (jc .first)) (getD b 0 0) u (jb .first) p h in
-      let uv = all-after (Of c) (jc .small) (jc .linked) u lu (λ a m. near-sym parallel r u a (t u a p m)) (getD c 0 0) v (jc .first) q uc in
+      let c₀ = getD c 0 0 in
+      let to-c : (a : ℕ) → Of b a → near parallel r a c₀ ≡ true = λ a m. t a c₀ m (jc .first) in
+      let uc = all-before (Of b) (jb .small) (jb .linked) c₀ (jc .small _ (jc .first)) to-c (getD b 0 0) u (jb .first) p h in
+      let to-u : (a : ℕ) → Of c a → near parallel r a u ≡ true = λ a m. near-sym parallel r u a (t u a p m) in
+      let uv = all-after (Of c) (jc .small) (jc .linked) u lu to-u c₀ v (jc .first) q uc in
       (uv, asymmetric u v lu lv uv)
 
   or-other : (b c : Block) → Joined b → Joined c → Tied b c → r (getD b 0 0) (getD c 0 0) ≡ false → (u v : ℕ) → Of c u → Of b v → Stands series r u v

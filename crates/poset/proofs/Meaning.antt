@@ -26,7 +26,8 @@ use Rattle.poset.specs.Tree.{
   Spans,
   Means,
 }
-use Rattle.poset.proofs.Laws.{clash, decided, false-unless, ltb-true, lt-true, eqb-true, eqb-same, count-same, count-other, count-zero, count-mem, mem-count, count-append}
+use Rattle.poset.proofs.Laws.{clash, decided, ltb-true, lt-true, eqb-true, eqb-same}
+use Rattle.poset.proofs.Laws.{count-same, count-other, count-zero, count-mem, mem-count, count-append}
 use Rattle.poset.proofs.Standing.{Stands, Free, stands-forth, stands-back}
 use Rattle.poset.proofs.Shape.{
   In,
@@ -111,12 +112,14 @@ mutual
   pub good-agrees : (r : Rel) (t : Tree) → Good r t → Agrees r t
   good-agrees r (leaf j) g u v p q = sym (ap₂ r p q ∙ g)
   good-agrees r (node k t f) g u v p q =
-      group-agrees r k t f (λ w. good-once r (node k t f) g .2 w) (g .2) (λ u v p q. good-agrees r t (g .0) u v p q) (λ u v p q. goodForest-agrees r k f (g .1) u v p q) u v p q
+      group-agrees r k t f (good-once r (node k t f) g .2) (g .2) (λ u v p q. good-agrees r t (g .0) u v p q)
+      (λ u v p q. goodForest-agrees r k f (g .1) u v p q) u v p q
 
   pub goodForest-agrees : (r : Rel) (k : Kind) (f : Forest) → GoodForest r k f → AgreesForest r k f
   goodForest-agrees r k (last t) g u v p q = good-agrees r t g u v p q
   goodForest-agrees r k (more t f) g u v p q =
-      group-agrees r k t f (goodForest-once r k (more t f) g .2) (g .2) (λ u v p q. good-agrees r t (g .0) u v p q) (λ u v p q. goodForest-agrees r k f (g .1) u v p q) u v p q
+      group-agrees r k t f (goodForest-once r k (more t f) g .2) (g .2) (λ u v p q. good-agrees r t (g .0) u v p q)
+      (λ u v p q. goodForest-agrees r k f (g .1) u v p q) u v p q
 
 -- each job once, and those below n
 

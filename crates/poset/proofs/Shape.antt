@@ -9,9 +9,10 @@ use lib.Dec.{eqb, ltb, T, lt→ltb, ltb→lt}
 use native.Mathlib.Omega.{arith}
 use Rattle.poset.specs.Lists.{member, count}
 use Rattle.poset.specs.Order.{Rel, comparable, incomparable}
-use Rattle.poset.specs.Tree.{Kind, series, parallel, Tree, leaf, node, Forest, last, more, leaves, forestLeaves, across, precedes, forestPrecedes, Spans, Means}
+use Rattle.poset.specs.Tree.{Kind, series, parallel, Tree, leaf, node, Forest, last, more}
+use Rattle.poset.specs.Tree.{leaves, forestLeaves, across, precedes, forestPrecedes}
 use Rattle.poset.proofs.Standing.{near, other, Stands, isSeries, near-sym, stands-near, stands-apart, stands-differ}
-use Rattle.poset.proofs.Laws.{decided, clash, false-unless, T-true, true-T, and-left, and-right, and-intro, or-cases, or-left, or-right, or-middle, or-last, not-true, not-false, eqb-true, eqb-same, eqb-differ, member-mem, mem-member, count-zero, count-mem, mem-count, count-append}
+use Rattle.poset.proofs.Laws.{clash, false-unless, and-left, and-right, and-intro, or-cases, or-left, or-middle, or-last, member-mem, mem-member}
 
 -- the jobs of a tree
 

@@ -8,7 +8,7 @@ use Rattle.poset.specs.Order.{Rel}
 use Rattle.poset.specs.Tree.{Kind, series, parallel, Tree, leaf, node, Forest, last, more, least, alternates, canonical, Means}
 use Rattle.poset.proofs.Laws.{clash}
 use Rattle.poset.proofs.Standing.{near}
-use Rattle.poset.proofs.Shape.{In, InForest, InGroup, someIn, someInForest, Apart, Across, Good, GoodForest, good-once, goodForest-once}
+use Rattle.poset.proofs.Shape.{In, InForest, InGroup, someIn, someInForest, Apart, Across, Good, GoodForest, good-once}
 use Rattle.poset.proofs.Canonical.{Leads, Canon, CanonForest, least-in, canon}
 use Rattle.poset.proofs.Meaning.{means-fits}
 use Rattle.poset.proofs.Linked.{Linked, only, stay-first, single-linked, group-linked, child-linked}
@@ -81,45 +81,50 @@ module _ (r : Rel) where
       → Same (InGroup s f) (InGroup t g) → Same (InForest f) (InForest g)
   same-rest k s f t g x y e v = (rest-within k s f t g x y e v, rest-within k t g s f y x (same-sym e) v)
 
-  group-of : (k : Kind) (t : Tree) (f : Forest) → Good r t × GoodForest r k f × Across r k t f → (alternates k t ≡ true) × Canon t × CanonForest k f × Leads k t f → Group r k t f
+  group-of : (k : Kind) (t : Tree) (f : Forest) → Good r (node k t f) → Canon (node k t f) → Group r k t f
   group-of k t f g c = record { alternating = c .0; good = g .0; across = g .2; leads = c .3; apart = good-once r (node k t f) g .2 }
 
   -- a leaf is no group
   no-leaf : (k : Kind) (j : ℕ) (t : Tree) (g : Forest) → Across r k t g → Apart t g → Same (only j) (InGroup t g) → ⊥
   no-leaf k j t g x apart e = no-split k (leaf j) t g (single-linked (near k r) j) x apart e
 
+  -- two groups of one kind are equal where their parts are
+  same-group : (k : Kind) (s : Tree) (f : Forest) (t : Tree) (g : Forest) → Good r (node k s f) → Good r (node k t g) → Canon (node k s f) → Canon (node k t g)
+      → Same (InGroup s f) (InGroup t g) → Same (In s) (In t) × Same (InForest f) (InForest g)
+  same-group k s f t g gs gt cs ct e =
+      let x = group-of k s f gs cs in
+      let y = group-of k t g gt ct in
+      (same-first k s f t g x y e, same-rest k s f t g x y e)
+
+  apart-of : (k : Kind) (t : Tree) (f : Forest) → Good r (node k t f) → Apart t f
+  apart-of k t f g = good-once r (node k t f) g .2
+
   mutual
     unique : (s t : Tree) → Good r s → Good r t → Canon s → Canon t → Same (In s) (In t) → s ≡ t
     unique (leaf i) (leaf j) gs gt cs ct e = ap leaf (e i .0 refl)
-    unique (leaf i) (node k t g) gs gt cs ct e = absurd (no-leaf k i t g (gt .2) (good-once r (node k t g) gt .2) e)
-    unique (node k s f) (leaf j) gs gt cs ct e = absurd (no-leaf k j s f (gs .2) (good-once r (node k s f) gs .2) (same-sym e))
-    unique (node series s f) (node series t g) gs gt cs ct e =
-        let x = group-of series s f gs cs in
-        let y = group-of series t g gt ct in
-        ap₂ (node series)
-        (unique s t (gs .0) (gt .0) (cs .1) (ct .1) (same-first series s f t g x y e))
-        (uniqueForest series f g (gs .1) (gt .1) (cs .2) (ct .2) (same-rest series s f t g x y e))
+    unique (leaf i) (node k t g) gs gt cs ct e = absurd (no-leaf k i t g (gt .2) (apart-of k t g gt) e)
+    unique (node k s f) (leaf j) gs gt cs ct e = absurd (no-leaf k j s f (gs .2) (apart-of k s f gs) (same-sym e))
     unique (node series s f) (node parallel t g) gs gt cs ct e =
-        absurd (no-split parallel (node series s f) t g (group-linked r series s f (gs .2)) (gt .2) (good-once r (node parallel t g) gt .2) e)
+        absurd (no-split parallel (node series s f) t g (group-linked r series s f (gs .2)) (gt .2) (apart-of parallel t g gt) e)
     unique (node parallel s f) (node series t g) gs gt cs ct e =
-        absurd (no-split series (node parallel s f) t g (group-linked r parallel s f (gs .2)) (gt .2) (good-once r (node series t g) gt .2) e)
+        absurd (no-split series (node parallel s f) t g (group-linked r parallel s f (gs .2)) (gt .2) (apart-of series t g gt) e)
+    unique (node series s f) (node series t g) gs gt cs ct e =
+        let parts = same-group series s f t g gs gt cs ct e in
+        ap₂ (node series) (unique s t (gs .0) (gt .0) (cs .1) (ct .1) (parts .0)) (uniqueForest series f g (gs .1) (gt .1) (cs .2) (ct .2) (parts .1))
     unique (node parallel s f) (node parallel t g) gs gt cs ct e =
-        let x = group-of parallel s f gs cs in
-        let y = group-of parallel t g gt ct in
-        ap₂ (node parallel)
-        (unique s t (gs .0) (gt .0) (cs .1) (ct .1) (same-first parallel s f t g x y e))
-        (uniqueForest parallel f g (gs .1) (gt .1) (cs .2) (ct .2) (same-rest parallel s f t g x y e))
+        let parts = same-group parallel s f t g gs gt cs ct e in
+        ap₂ (node parallel) (unique s t (gs .0) (gt .0) (cs .1) (ct .1) (parts .0)) (uniqueForest parallel f g (gs .1) (gt .1) (cs .2) (ct .2) (parts .1))
 
-    uniqueForest : (k : Kind) (f g : Forest) → GoodForest r k f → GoodForest r k g → CanonForest k f → CanonForest k g → Same (InForest f) (InForest g) → f ≡ g
+    uniqueForest : (k : Kind) (f g : Forest) → GoodForest r k f → GoodForest r k g → CanonForest k f → CanonForest k g
+        → Same (InForest f) (InForest g) → f ≡ g
     uniqueForest k (last s) (last t) gs gt cs ct e = ap last (unique s t gs gt (cs .1) (ct .1) e)
-    uniqueForest k (last s) (more t g) gs gt cs ct e = absurd (no-split k s t g (child-linked r k s (cs .0) gs) (gt .2) (goodForest-once r k (more t g) gt .2) e)
-    uniqueForest k (more s f) (last t) gs gt cs ct e = absurd (no-split k t s f (child-linked r k t (ct .0) gt) (gs .2) (goodForest-once r k (more s f) gs .2) (same-sym e))
+    uniqueForest k (last s) (more t g) gs gt cs ct e =
+        absurd (no-split k s t g (child-linked r k s (cs .0) gs) (gt .2) (apart-of k t g gt) e)
+    uniqueForest k (more s f) (last t) gs gt cs ct e =
+        absurd (no-split k t s f (child-linked r k t (ct .0) gt) (gs .2) (apart-of k s f gs) (same-sym e))
     uniqueForest k (more s f) (more t g) gs gt cs ct e =
-        let x = group-of k s f gs cs in
-        let y = group-of k t g gt ct in
-        ap₂ more
-        (unique s t (gs .0) (gt .0) (cs .1) (ct .1) (same-first k s f t g x y e))
-        (uniqueForest k f g (gs .1) (gt .1) (cs .2) (ct .2) (same-rest k s f t g x y e))
+        let parts = same-group k s f t g gs gt cs ct e in
+        ap₂ more (unique s t (gs .0) (gt .0) (cs .1) (ct .1) (parts .0)) (uniqueForest k f g (gs .1) (gt .1) (cs .2) (ct .2) (parts .1))
 
 pub canonical-unique : (n : ℕ) (r : Rel) (s t : Tree) → Means n s r → Means n t r → canonical s ≡ true → canonical t ≡ true → s ≡ t
 canonical-unique n r s t ms mt cs ct =
