@@ -1,84 +1,29 @@
 -- The computed tree: it means its order and is canonical, and where there is none the order has an N.
-use Prim.Native.Nat.{ℕ, zero, suc, _≤_, _<_}
+use Prim.Native.Nat.{ℕ, zero, suc, _<_}
 use mathlib.Core.Path.{_≡_, refl, sym, ap, subst, _∙_}
-use mathlib.Core.List.{List, [], _∷_, List·Memᴰ·head, List·Memᴰ·tail, List·Memᴰ·cases-cons, List·Memᴰ·not-nil, List·Memᴰ·eq-of-singleton}
-use mathlib.Core.Bool.{Bool, true, false}
+use mathlib.Core.List.{List, [], _∷_, List·Memᴰ·head, List·Memᴰ·not-nil}
+use mathlib.Core.Bool.{true}
 use mathlib.Core.Option.{Option, none, some, bind, bind-eq-some-iff, Option·some-injective}
 use mathlib.Core.Logic.{_⊎_, inl, inr, ⊎-elim}
 use native.Mathlib.Omega.{arith}
 use lib.ListN.{length}
-use Rattle.poset.specs.Lists.{below, upFrom, keep, member}
+use Rattle.poset.specs.Lists.{below, upFrom}
 use Rattle.poset.specs.Order.{Rel, Strict, HasN}
-use Rattle.poset.specs.Tree.{Kind, series, parallel, Tree, leaf, node, Forest, last, more, alternates, canonical, precedes, Spans, Means, HasTree}
+use Rattle.poset.specs.Tree.{Kind, series, parallel, Tree, leaf, node, Forest, last, more, canonical, precedes, Spans, Means, HasTree}
 use Rattle.poset.specs.Decompose.{Block, parallelParts, seriesParts, forestOf, groupOf, decompose, treeOf}
-use Rattle.poset.proofs.Laws.{clash, found-or-none, found-clash, mem-below, below-mem, mem-upFrom}
+use Rattle.poset.proofs.Laws.{found-or-none, found-clash, mem-below, below-mem, mem-upFrom}
 use Rattle.poset.proofs.Sums.{length-below}
-use Rattle.poset.proofs.Standing.{near, other, Stands, stands-differ}
-use Rattle.poset.proofs.Shape.{In, InForest, InGroup, someIn, Across, Good, GoodForest, good-once}
-use Rattle.poset.proofs.Meaning.{Holds, Fits, fits-means, means-fits}
+use Rattle.poset.proofs.Standing.{near, Stands, stands-differ}
+use Rattle.poset.proofs.Shape.{someIn}
+use Rattle.poset.proofs.Meaning.{means-fits}
 use Rattle.poset.proofs.TreeOrder.{tree-is-strict}
-use Rattle.poset.proofs.Linked.{Linked, linked-within, child-linked}
+use Rattle.poset.proofs.Linked.{Linked, linked-within}
 use Rattle.poset.proofs.Forbidden.{tree-has-no-n}
-use Rattle.poset.proofs.Canonical.{Leads, Canon, CanonForest, least-le, canon-canonical}
-use Rattle.poset.proofs.Unique.{Same, no-split, canonical-unique}
+use Rattle.poset.proofs.Unique.{canonical-unique}
 use Rattle.poset.proofs.Components.{Of, OfBlocks, Sorted}
 use Rattle.poset.proofs.Connected.{connected-n}
-use Rattle.poset.proofs.Laying.{Each, Laid, Led, Ordered, Raw, Ready, Blocks, parallel-blocks, series-blocks}
-
--- a tree that is the canonical one of the order on js
-record Tells (r : Rel) (js : List ℕ) (t : Tree) : Type 0 where
-  good : Good r t
-  canonicalForm : Canon t
-  same : Same (In t) (Of js)
-
-record TellsForest (r : Rel) (k : Kind) (bs : List Block) (f : Forest) : Type 0 where
-  good : GoodForest r k f
-  canonicalForm : CanonForest k f
-  same : Same (InForest f) (OfBlocks bs)
-
--- what is joined under a kind is no group of that kind
-alternating : (r : Rel) (k : Kind) (t : Tree) → Good r t → Linked (near k r) (In t) → alternates k t ≡ true
-unfolding alternates
-alternating r k (leaf j) g l = refl
-alternating r series (node series t f) g l =
-    absurd (no-split r series (node series t f) t f l (g .2) (good-once r (node series t f) g .2) (λ u. (λ p. p, λ p. p)))
-alternating r series (node parallel t f) g l = refl
-alternating r parallel (node series t f) g l = refl
-alternating r parallel (node parallel t f) g l =
-    absurd (no-split r parallel (node parallel t f) t f l (g .2) (good-once r (node parallel t f) g .2) (λ u. (λ p. p, λ p. p)))
-
-leading : (k : Kind) (b : Block) (bs : List Block) (t : Tree) (f : Forest) → Ordered k (b ∷ bs) → Same (In t) (Of b)
-    → Same (InForest f) (OfBlocks bs) → Leads k t f
-leading series b bs t f o st sf = tt
-leading parallel b bs t f o st sf =
-    λ v p. let (u, m, lower) = o .0 in omega (arith, least-le t u (st u .1 m), lower v (sf v .0 p))
-
-later-ordered : (k : Kind) (b : Block) (bs : List Block) → Ordered k (b ∷ bs) → Ordered k bs
-later-ordered series b bs o = tt
-later-ordered parallel b bs o = o .1
-
--- the first child and the others
-record TellsGroup (r : Rel) (k : Kind) (bs : List Block) (t : Tree) (f : Forest) : Type 0 where
-  good : Good r t × GoodForest r k f × Across r k t f
-  canonicalForm : (alternates k t ≡ true) × Canon t × CanonForest k f × Leads k t f
-  same : Same (InGroup t f) (OfBlocks bs)
-
-tells-group : (r : Rel) (k : Kind) (js : List ℕ) (b : Block) (bs : List Block) (t : Tree) (f : Forest) → Laid k r (b ∷ bs) → Ready k r js b
-    → Ordered k (b ∷ bs) → Tells r b t → TellsForest r k bs f → TellsGroup r k (b ∷ bs) t f
-tells-group r k js b bs t f laid ready ordered x y =
-    record {
-      good = (x .good, y .good, λ u v p q. laid .0 u v (x .same u .0 p) (y .same v .0 q));
-      canonicalForm = (
-        alternating r k t (x .good) (linked-within (near k r) (Of b) (In t) (λ u. x .same u .1) (λ u. x .same u .0) (ready .raw .linked)),
-        x .canonicalForm,
-        y .canonicalForm,
-        leading k b bs t f ordered (x .same) (y .same),
-      );
-      same = λ u. (
-        ⊎-elim (λ p. inl (x .same u .0 p)) (λ p. inr (y .same u .0 p)),
-        ⊎-elim (λ p. inl (x .same u .1 p)) (λ p. inr (y .same u .1 p)),
-      );
-    }
+use Rattle.poset.proofs.Laying.{Each, Laid, Ordered, Ready, Blocks, parallel-blocks, series-blocks}
+use Rattle.poset.proofs.Telling.{Tells, TellsForest, later-ordered, tells-leaf, tells-last, tells-more, tells-node, tells-means}
 
 -- what an attempt at a group comes to: a tree; or none, since the jobs are joined; or an N
 data Attempt (o : Option Tree) (L : Type 1) (N : Type 0) : Type 1 where
@@ -105,25 +50,14 @@ module _ (n : ℕ) (r : Rel) (strict : Strict n r) where
     unfolding forestOf
     forest-tells b [] laid ready ordered g e =
         let (t, found, rest) = bind-eq-some-iff (f b) (λ t. some (last t)) .0 e in
-        let x = child b (ready .0) t found in
         subst (TellsForest r k (b ∷ [])) (Option·some-injective (last t) g rest)
-        (record {
-          good = x .good;
-          canonicalForm = (
-            alternating r k t (x .good)
-                (linked-within (near k r) (Of b) (In t) (λ u. x .same u .1) (λ u. x .same u .0) (ready .0 .raw .linked)),
-            x .canonicalForm,
-          );
-          same = λ u. ((λ p. inl (x .same u .0 p)), ⊎-elim (λ p. x .same u .1 p) (λ p. absurd p));
-        })
+        (tells-last r k b t (ready .0 .raw .linked) (child b (ready .0) t found))
     forest-tells b (c ∷ bs) laid ready ordered g e =
         let (t, found, rest) = bind-eq-some-iff (f b) (λ t. bind (forestOf f c bs) (λ h. some (more t h))) .0 e in
         let (h, found′, rest′) = bind-eq-some-iff (forestOf f c bs) (λ h. some (more t h)) .0 rest in
-        let x =
-        tells-group r k js b (c ∷ bs) t h laid (ready .0) ordered (child b (ready .0) t found)
-        (forest-tells c bs (laid .1) (ready .1) (later-ordered k b (c ∷ bs) ordered) h found′) in
         subst (TellsForest r k (b ∷ c ∷ bs)) (Option·some-injective (more t h) g rest′)
-        (record { good = x .good; canonicalForm = x .canonicalForm; same = x .same })
+        (tells-more r k b t (ready .0 .raw .linked) (child b (ready .0) t found) (c ∷ bs) h laid ordered
+        (forest-tells c bs (laid .1) (ready .1) (later-ordered k b (c ∷ bs) ordered) h found′))
 
     group-tells : (bs : List Block) → Blocks k r js bs → (t : Tree) → groupOf k f bs ≡ some t → Tells r js t
     unfolding groupOf
@@ -134,15 +68,11 @@ module _ (n : ℕ) (r : Rel) (strict : Strict n r) where
         let (h, found′, rest′) = bind-eq-some-iff (forestOf f c bs) (λ h. some (node k t h)) .0 rest in
         let laid = blocks .laid in
         let ready = blocks .ready in
-        let x =
-        tells-group r k js b (c ∷ bs) t h laid (ready .0) (blocks .ordered) (child b (ready .0) t found)
-        (forest-tells c bs (laid .1) (ready .1) (later-ordered k b (c ∷ bs) (blocks .ordered)) h found′) in
+        let ordered = blocks .ordered in
         subst (Tells r js) (Option·some-injective (node k t h) s rest′)
-        (record {
-          good = x .good;
-          canonicalForm = x .canonicalForm;
-          same = λ u. ((λ p. blocks .from u (x .same u .0 p)), λ p. x .same u .1 (blocks .onto u p));
-        })
+        (tells-node r k js (b ∷ c ∷ bs) t h (λ u. (blocks .from u, blocks .onto u))
+        (tells-more r k b t (ready .0 .raw .linked) (child b (ready .0) t found) (c ∷ bs) h laid ordered
+        (forest-tells c bs (laid .1) (ready .1) (later-ordered k b (c ∷ bs) ordered) h found′)))
 
   -- which of the two groups a decomposition takes
   takes-parallel : (m x y : ℕ) (zs : List ℕ) (t : Tree) → groupOf parallel (decompose m r) (parallelParts r (x ∷ y ∷ zs)) ≡ some t
@@ -161,11 +91,7 @@ module _ (n : ℕ) (r : Rel) (strict : Strict n r) where
   decompose-tells (suc m) [] s small t e = absurd (found-clash e refl)
   decompose-tells (suc m) (x ∷ []) s small t e =
       subst (Tells r (x ∷ [])) (Option·some-injective (leaf x) t e)
-      (record {
-        good = strict .irreflexive x (small x (List·Memᴰ·head refl));
-        canonicalForm = tt;
-        same = λ u. ((λ p. List·Memᴰ·head p), λ p. List·Memᴰ·eq-of-singleton p);
-      })
+      (tells-leaf r x (strict .irreflexive x (small x (List·Memᴰ·head refl))))
   decompose-tells (suc m) (x ∷ y ∷ zs) s small t e =
       let js = x ∷ y ∷ zs in
       let ih = decompose-tells m in
@@ -288,21 +214,14 @@ unfolding upFrom
 upFrom-sorted k zero = tt
 upFrom-sorted k (suc m) = ((λ v p. mem-upFrom (suc k) m p .0), upFrom-sorted (suc k) m)
 
-below-sorted : (n : ℕ) → Sorted (below n)
+pub below-sorted : (n : ℕ) → Sorted (below n)
 unfolding below
 below-sorted n = upFrom-sorted 0 n
 
 pub tree-of-sound : (n : ℕ) (r : Rel) (t : Tree) → Strict n r → treeOf n r ≡ some t → Means n t r × (canonical t ≡ true)
 unfolding treeOf
 tree-of-sound n r t strict e =
-    let x = decompose-tells n r strict n (below n) (below-sorted n) (λ u p. mem-below n p) t e in (
-      fits-means n r t
-          (record {
-            good = x .good;
-            holds = record { inside = λ u p. mem-below n (x .same u .0 p); outside = λ u p. x .same u .1 (below-mem p) };
-          }),
-      canon-canonical t (x .canonicalForm),
-    )
+    tells-means n r t (decompose-tells n r strict n (below n) (below-sorted n) (λ u p. mem-below n p) t e)
 
 tree-of-or-n : (n : ℕ) (r : Rel) → 0 < n → Strict n r → ((t : Tree) × (treeOf n r ≡ some t)) ⊎ HasN n r
 unfolding treeOf
@@ -318,9 +237,11 @@ tree-of-complete n r (t, m) =
     let small = means-fits n r t m .holds .inside (j .0) (j .1) in
     ⊎-elim (λ f. f) (λ h. absurd (tree-has-no-n n r (t, m) h)) (tree-of-or-n n r (omega arith) (tree-is-strict n r t m))
 
+pub tree-of-means : (n : ℕ) (r : Rel) (t : Tree) → Means n t r → canonical t ≡ true → treeOf n r ≡ some t
+tree-of-means n r t m c =
+    let (s, e) = tree-of-complete n r (t, m) in
+    let x = tree-of-sound n r s (tree-is-strict n r t m) e in
+    e ∙ ap some (canonical-unique n r s t (x .0) m (x .1) c)
+
 pub tree-of-canonical : (n : ℕ) (t : Tree) → Spans n t → canonical t ≡ true → treeOf n (precedes t) ≡ some t
-tree-of-canonical n t spans c =
-    let own : Means n t (precedes t) = record { spans = spans; agrees = λ u v p q. refl } in
-    let (s, e) = tree-of-complete n (precedes t) (t, own) in
-    let x = tree-of-sound n (precedes t) s (tree-is-strict n (precedes t) t own) e in
-    e ∙ ap some (canonical-unique n (precedes t) s t (x .0) own (x .1) c)
+tree-of-canonical n t spans c = tree-of-means n (precedes t) t (record { spans = spans; agrees = λ u v p q. refl }) c

@@ -17,5 +17,6 @@ pub mod Unique
 pub mod Components
 pub mod Connected
 pub mod Laying
+pub mod Telling
 pub mod Decomposition
 pub mod Theorems

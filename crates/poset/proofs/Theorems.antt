@@ -77,6 +77,10 @@ pub canonical-unique
     : (n : ℕ) (r : Rel) (s t : Tree) → Means n s r → Means n t r → canonical s ≡ true → canonical t ≡ true → s ≡ t
 canonical-unique = Unique.canonical-unique
 
+-- the canonical tree that means an order is the computed one
+pub tree-of-means : (n : ℕ) (r : Rel) (t : Tree) → Means n t r → canonical t ≡ true → treeOf n r ≡ some t
+tree-of-means = Decomposition.tree-of-means
+
 -- a canonical tree is the computed tree of its own order
 pub tree-of-canonical : (n : ℕ) (t : Tree) → Spans n t → canonical t ≡ true → treeOf n (precedes t) ≡ some t
 tree-of-canonical = Decomposition.tree-of-canonical
