@@ -80,20 +80,20 @@ module _ (r : Rel) (b : Block) where
       later (inr (inr m)) ih = inr (ih (inr m))
 
 module _ (n : ℕ) (r : Rel) (strict : Strict n r) where
-  asymmetric : (u v : ℕ) → u < n → v < n → r u v ≡ true → r v u ≡ false
+  pub asymmetric : (u v : ℕ) → u < n → v < n → r u v ≡ true → r v u ≡ false
   asymmetric u v lu lv h = false-unless (r v u) (λ e. clash (strict .transitive u v u lu lv lu h e) (strict .irreflexive u lu))
 
   -- a set joined by incomparability lies on one side of a job that all of it is comparable to
   module _ (S : ℕ → Type 0) (small : (u : ℕ) → S u → u < n) (linked : Linked (near series r) S) (w : ℕ) (lw : w < n)
       (tied : (u : ℕ) → S u → near parallel r u w ≡ true) where
-    all-before : (u v : ℕ) → S u → S v → r u w ≡ true → r v w ≡ true
+    pub all-before : (u v : ℕ) → S u → S v → r u w ≡ true → r v w ≡ true
     all-before =
         linked (λ u. r u w ≡ true)
         (λ u v p q h uw.
         forced r w v (near-sym parallel r v w (tied v q))
         (λ wv. clash (strict .transitive u w v (small u p) lw (small v q) uw wv) (free r u v h .forth)))
 
-    all-after : (u v : ℕ) → S u → S v → r w u ≡ true → r w v ≡ true
+    pub all-after : (u v : ℕ) → S u → S v → r w u ≡ true → r w v ≡ true
     all-after =
         linked (λ u. r w u ≡ true)
         (λ u v p q h wu.

@@ -174,7 +174,7 @@ group-count u t f apart p q =
 mutual
   unfolding leaves count
 
-  once-count : (t : Tree) → Once t → AtMostOne (λ u. count u (leaves t))
+  pub once-count : (t : Tree) → Once t → AtMostOne (λ u. count u (leaves t))
   once-count (leaf j) o u = single-count u j
   once-count (node k t f) o u = group-count u t f (o .2) (once-count t (o .0) u) (onceForest-count f (o .1) u)
 
