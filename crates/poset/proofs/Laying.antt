@@ -210,7 +210,7 @@ inOrder-from js b u p = let m = mem-keep (λ j. member j b) js p in (member-mem 
 inOrder-onto : (js : List ℕ) (b : Block) (u : ℕ) → Of b u → Of js u → Of (inOrder js b) u
 inOrder-onto js b u p q = keep-mem (λ j. member j b) q (mem-member p)
 
-keep-sorted : (p : ℕ → Bool) (xs : List ℕ) → Sorted xs → Sorted (keep p xs)
+pub keep-sorted : (p : ℕ → Bool) (xs : List ℕ) → Sorted xs → Sorted (keep p xs)
 unfolding keep
 keep-sorted p [] s = tt
 keep-sorted p (x ∷ xs) s =
