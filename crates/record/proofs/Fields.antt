@@ -1,10 +1,10 @@
 -- Fields of bits: a number's bits, and the number read back.
 use Prim.Native.Nat.{ℕ, zero, suc, _+_, _*_, _/_, _%_, _^_, _≤_, _<_}
 use mathlib.Core.Path.{_≡_, refl, sym, ap, ap₂, subst, _∙_}
-use mathlib.Core.List.{List, [], _∷_, _++_, List·Memᴰ, List·Memᴰ·head, List·Memᴰ·tail, List·Memᴰ·cases-cons, List·Memᴰ·not-nil, List·Memᴰ·append-cases}
+use mathlib.Core.List.{List, [], _∷_, _++_, List·Memᴰ, List·Memᴰ·head, List·Memᴰ·tail, List·Memᴰ·cases-cons, List·Memᴰ·not-nil, List·Memᴰ·append-cases, Memᴰ·append-left, Memᴰ·append-right}
 use mathlib.Core.Option.{Option, none, some, bind, bind-eq-some-iff, Option·none-ne-some, Option·some-injective}
 use mathlib.Core.Logic.{⊎-elim}
-use native.Mathlib.Nat.{zero-add, suc-add, add-comm, pow-suc, mul-add-div-right, one-le-pow, mod-one, mod-lt}
+use native.Mathlib.Nat.{zero-add, suc-add, add-comm, pow-suc, mul-add-div-right, one-le-pow, mod-one, mod-lt, mod-eq-of-lt}
 use native.Mathlib.Numerals.{add-one}
 use native.Mathlib.Omega.{arith}
 use lib.Arith.{digits-lt}
@@ -30,6 +30,12 @@ module _ {m : ℕ} where
 
   pub below-append : {xs ys : List ℕ} → AllBelow m xs → AllBelow m ys → AllBelow m (xs ++ ys)
   below-append {xs} p q x i = ⊎-elim (λ j. p x j) (λ j. q x j) (List·Memᴰ·append-cases xs i)
+
+  pub below-left : (xs ys : List ℕ) → AllBelow m (xs ++ ys) → AllBelow m xs
+  below-left xs ys h x i = h x (Memᴰ·append-left ys i)
+
+  pub below-right : (xs ys : List ℕ) → AllBelow m (xs ++ ys) → AllBelow m ys
+  below-right xs ys h x i = h x (Memᴰ·append-right xs i)
 
 -- a number's bits
 
@@ -88,6 +94,9 @@ read-bits zero x rest = rw (mod-one x)
 read-bits (suc k) x rest =
     let one : 1 + k ≡ suc k = omega arith in
     rw (read-bits k x rest, ← one, mod-pow-add x 1 k)
+
+pub read-back : (k x : ℕ) (rest : List ℕ) → x < 2 ^ k → readBits k (bits k x ++ rest) ≡ some (x, rest)
+read-back k x rest h = read-bits k x rest ∙ ap (λ (y : ℕ). some (y, rest)) (mod-eq-of-lt h)
 
 -- what was read, and its bounds
 pub record Read (k : ℕ) (bs : List ℕ) (x : ℕ) (rest : List ℕ) : Type 0 where

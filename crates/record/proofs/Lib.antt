@@ -1,3 +1,5 @@
 pub mod Fields
 pub mod Bytes
+pub mod Sizes
+pub mod Reading
 pub mod Examples
