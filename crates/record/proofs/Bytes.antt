@@ -89,13 +89,15 @@ bytes-filled (b ∷ bs) h =
     subst (λ (l : List ℕ). Filled (l ++ bs) (packed 7 b bs)) (bit-alone b (below-head h))
     (packed-filled 0 7 b bs refl (below-head h) (below-tail h))
 
+pub filled-length : {bs bytes : List ℕ} (f : Filled bs bytes) → 8 * length bytes ≡ length bs + f .fill
+filled-length {bs} {bytes} f =
+    sym (length-bitsOf bytes)
+    ∙ ap length (f .same)
+    ∙ length-append bs (replicate (f .fill) 0)
+    ∙ ap (λ (k : ℕ). length bs + k) (length-replicate (f .fill) 0)
+
 -- no other bytes are
 pub filled-unique : {bs xs ys : List ℕ} → Filled bs xs → Filled bs ys → xs ≡ ys
-filled-unique {bs} {xs} {ys} p q = bitsOf-injective xs ys (p .small) (q .small) (p .same ∙ ap (λ (k : ℕ). bs ++ replicate k 0) alike ∙ sym (q .same))
-  where
-    size : {zs : List ℕ} (f : Filled bs zs) → 8 * length zs ≡ length bs + f .fill
-    size {zs} f =
-        sym (length-bitsOf zs) ∙ ap length (f .same) ∙ length-append bs (replicate (f .fill) 0) ∙ ap (λ (k : ℕ). length bs + k) (length-replicate (f .fill) 0)
-
-    alike : p .fill ≡ q .fill
-    alike = omega (arith, size p, size q, p .few, q .few)
+filled-unique {bs} {xs} {ys} p q =
+    let alike : p .fill ≡ q .fill = omega (arith, filled-length p, filled-length q, p .few, q .few) in
+    bitsOf-injective xs ys (p .small) (q .small) (p .same ∙ ap (λ (k : ℕ). bs ++ replicate k 0) alike ∙ sym (q .same))

@@ -76,11 +76,11 @@ mutual
 -- what is read is a tree laid out
 
 -- what a step gave, where the rest of the steps follows it
-after : {A B P : Type 0} (o : Option A) (g : A → Option B) {b : B} → bind o g ≡ some b → ((a : A) → o ≡ some a → g a ≡ some b → P) → P
+pub after : {A B P : Type 0} (o : Option A) (g : A → Option B) {b : B} → bind o g ≡ some b → ((a : A) → o ≡ some a → g a ≡ some b → P) → P
 after o g e then = let r = bind-eq-some-iff o g .0 e in then (r .0) (r .1) (r .2)
 
 -- the bits after those that were read are bits too
-below-rest : (xs : List ℕ) {bs rest : List ℕ} → AllBelow 2 bs → bs ≡ xs ++ rest → AllBelow 2 rest
+pub below-rest : (xs : List ℕ) {bs rest : List ℕ} → AllBelow 2 bs → bs ≡ xs ++ rest → AllBelow 2 rest
 below-rest xs {rest = rest} h e = below-right xs rest (subst (AllBelow 2) e h)
 
 -- a reader of trees takes the bits of its tree and no others
