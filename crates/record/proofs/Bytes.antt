@@ -57,10 +57,10 @@ packed-filled i k value [] e v h =
       fill = k;
       few = omega arith;
       same =
-        append-nil _
-        ∙ ap₂ bits (sym whole) (sym (add-zero (value * 2 ^ k)))
-        ∙ bits-append (suc i) k value 0 (pow-pos k)
-        ∙ ap₂ _++_ (sym (append-nil (bits (suc i) value))) (bits-zero k);
+          append-nil _
+          ∙ ap₂ bits (sym whole) (sym (add-zero (value * 2 ^ k)))
+          ∙ bits-append (suc i) k value 0 (pow-pos k)
+          ∙ ap₂ _++_ (sym (append-nil (bits (suc i) value))) (bits-zero k);
       small = below-cons (subst (λ (n : ℕ). value * 2 ^ k < 2 ^ n) whole (shl-lt (suc i) k v)) below-nil;
     }
 packed-filled i zero value (b ∷ bs) e v h =
@@ -71,9 +71,9 @@ packed-filled i zero value (b ∷ bs) e v h =
       fill = rest .fill;
       few = rest .few;
       same =
-        ap (λ (l : List ℕ). bits 8 value ++ l) (rest .same ∙ ap (λ (l : List ℕ). l ++ bs ++ zeros) (bit-alone b (below-head h)))
-        ∙ sym (append-assoc (bits 8 value) (b ∷ bs) zeros)
-        ∙ ap (λ (n : ℕ). bits n value ++ (b ∷ bs) ++ zeros) whole;
+          ap (λ (l : List ℕ). bits 8 value ++ l) (rest .same ∙ ap (λ (l : List ℕ). l ++ bs ++ zeros) (bit-alone b (below-head h)))
+          ∙ sym (append-assoc (bits 8 value) (b ∷ bs) zeros)
+          ∙ ap (λ (n : ℕ). bits n value ++ (b ∷ bs) ++ zeros) whole;
       small = below-cons (subst (λ (n : ℕ). value < 2 ^ n) (sym whole) v) (rest .small);
     }
 packed-filled i (suc k) value (b ∷ bs) e v h =

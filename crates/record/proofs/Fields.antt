@@ -67,7 +67,7 @@ unfolding bits
 bits-append zero k x r h = rw (zero-add k) (bits-low k x r)
 bits-append (suc j) k x r h =
     let e : (x * 2 ^ k + r) / 2 ^ (j + k) ≡ x / 2 ^ j
-        = rw (add-comm j k, ← shr-shr (x * 2 ^ k + r) k j, high x k h) in
+    = rw (add-comm j k, ← shr-shr (x * 2 ^ k + r) k j, high x k h) in
     rw (suc-add j k) (ap₂ _∷_ (ap (λ (y : ℕ). y % 2) e) (bits-append j k x r h))
 
 pub bit-alone : (b : ℕ) → b < 2 → bits 1 b ≡ b ∷ []

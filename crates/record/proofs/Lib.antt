@@ -5,3 +5,4 @@ pub mod Reading
 pub mod Tests
 pub mod Records
 pub mod Examples
+pub mod Theorems

@@ -57,9 +57,9 @@ mutual
   read-tree (node k t f) (suc d) h l rest =
       let (c, e) = others f in
       let children =
-          read-more (readTree d) t rest c f
-          (λ left. read-tree t d (h .1) (omega arith) left)
-          (read-forest f d c e (h .2) (omega arith) rest) in
+      read-more (readTree d) t rest c f
+      (λ left. read-tree t d (h .1) (omega arith) left)
+      (read-forest f d c e (h .2) (omega arith) rest) in
       rw (append-assoc (bits 7 (moreChildren f)) (treeBits t ++ forestBits f) rest)
       (read-group d (moreChildren f) k t f (treeBits t ++ forestBits f ++ rest) rest (h .0) (rw e children))
 
@@ -128,9 +128,9 @@ group-read
 group-read b k c f s bs after-kind after-number rest h kind number forest e =
     let one : suc b ≡ 1 = omega arith in
     let kind-bit : bits 1 k ≡ kindBit (kindOf k) ∷ [] =
-        bit-alone k (kind .small) ∙ ap (λ (x : ℕ). x ∷ []) (sym (kind-there k (kind .small))) in
+    bit-alone k (kind .small) ∙ ap (λ (x : ℕ). x ∷ []) (sym (kind-there k (kind .small))) in
     let others : after-kind ≡ bits 7 c ++ (forestBits f ++ rest) =
-        number .these ∙ ap (λ (l : List ℕ). bits 7 c ++ l) (forest .these) in
+    number .these ∙ ap (λ (l : List ℕ). bits 7 c ++ l) (forest .these) in
     ap₂ _∷_ one (kind .these ∙ ap₂ _++_ kind-bit others)
     ∙ sym (append-assoc (1 ∷ kindBit (kindOf k) ∷ bits 7 c) (forestBits f) rest)
     ∙ ap (λ (l : List ℕ). l ++ rest) (group-bits (kindOf k) f s c e (forest .number))

@@ -32,54 +32,50 @@ layout-below n t = layout-filled n t .small
 
 -- the bytes of a record
 
-pub record Size (n : ℕ) (t : Tree) : Type 0 where
-  pub exact : length (layout n t) ≡ (7 + 8 * n + 9 * groups t + 7) / 8
-  pub fewer-groups : groups t < n
-  pub at-most : length (layout n t) ≤ 272
-
-pub layout-length : (n : ℕ) (t : Tree) → n ≤ 128 → Spans n t → Size n t
+pub layout-length : (n : ℕ) (t : Tree) → n ≤ 128 → Spans n t
+    → (length (layout n t) ≡ (7 + 8 * n + 9 * groups t + 7) / 8) × (groups t < n) × (length (layout n t) ≤ 272)
 layout-length n t l s =
     let f = layout-filled n t in
     let whole : 8 * length (layout n t) ≡ 7 + (8 * length (leaves t) + 9 * groups t) + f .fill =
-        omega (arith, filled-length f, length-append (bits 7 (n - 1)) (treeBits t), length-bits 7 (n - 1), length-treeBits t) in
+    omega (arith, filled-length f, length-append (bits 7 (n - 1)) (treeBits t), length-bits 7 (n - 1), length-treeBits t) in
     let leaves-n : length (leaves t) ≡ n = length-leaves n t s in
     let few-groups : groups t < length (leaves t) = groups-lt t in
     let few : f .fill < 8 = f .few in
-    record { exact = omega arith; fewer-groups = omega arith; at-most = omega arith }
+    omega arith
 
 -- there
 
-accepted : (n : ℕ) (t : Tree) (rest : List ℕ) → Bool
+-- the decoder's last test
+abbrev accepted : ℕ → Tree → List ℕ → Bool
 accepted n t rest = fills rest && (canonical t && spanning n t)
 
 decode-steps
     : (bytes after-count left : List ℕ) (m : ℕ) (t : Tree) → readBits 7 (bitsOf bytes) ≡ some (m, after-count)
     → readTree (length after-count) after-count ≡ some (t, left) → decode bytes ≡ onlyIf (accepted (suc m) t left) (suc m, t)
-unfolding decode bind accepted
+unfolding decode bind
 decode-steps bytes after-count left m t p q = rw (p, q)
 
 pub decode-layout : (n : ℕ) (t : Tree) → 0 < n → n ≤ 128 → Spans n t → canonical t ≡ true → decode (layout n t) ≡ some (n, t)
-unfolding onlyIf accepted
+unfolding onlyIf
 decode-layout n t p l s c =
     let f = layout-filled n t in
     let zeros : List ℕ = replicate (f .fill) 0 in
     let one-less : suc (n - 1) ≡ n = omega arith in
     let enough : groups t < length (treeBits t ++ zeros) =
-        omega (arith, length-append (treeBits t) zeros, length-treeBits t, groups-lt t) in
+    omega (arith, length-append (treeBits t) zeros, length-treeBits t, groups-lt t) in
     decode-steps (layout n t) (treeBits t ++ zeros) zeros (n - 1) t
     (ap (readBits 7) (f .same ∙ append-assoc (bits 7 (n - 1)) (treeBits t) zeros) ∙ read-back 7 (n - 1) (treeBits t ++ zeros) (omega arith))
     (read-tree t (length (treeBits t ++ zeros)) (spans-fits n t l s) enough zeros)
     ∙ ap₂ onlyIf
-      (and-intro (fills zeros) (canonical t && spanning (suc (n - 1)) t) (fills-zeros (f .fill) (f .few))
-      (and-intro (canonical t) (spanning (suc (n - 1)) t) c (rw one-less (spanning-spans n t .1 s))))
-      (ap (λ (k : ℕ). (k, t)) one-less)
+    (and-intro (fills zeros) (canonical t && spanning (suc (n - 1)) t) (fills-zeros (f .fill) (f .few))
+    (and-intro (canonical t) (spanning (suc (n - 1)) t) c (rw one-less (spanning-spans n t .1 s))))
+    (ap (λ (k : ℕ). (k, t)) one-less)
 
 -- and back
 
 -- the bytes were read to the end
 found : (bytes after-count left : List ℕ) (m : ℕ) (t : Tree) → AllBelow 256 bytes → Read 7 (bitsOf bytes) m after-count
     → after-count ≡ treeBits t ++ left → accepted (suc m) t left ≡ true → IsRecord bytes (suc m) t
-unfolding accepted
 found bytes after-count left m t b count tree a =
     let tests = and-right (fills left) (canonical t && spanning (suc m) t) a in
     let (few, zeros) = zeros-fill left (and-left (fills left) (canonical t && spanning (suc m) t) a) in
@@ -89,9 +85,9 @@ found bytes after-count left m t b count tree a =
       fill = length left;
       few = few;
       same =
-        count .these
-        ∙ ap₂ _++_ (ap (bits 7) same-count) (tree ∙ ap (λ (l : List ℕ). treeBits t ++ l) zeros)
-        ∙ sym (append-assoc (bits 7 (suc m - 1)) (treeBits t) (replicate (length left) 0));
+          count .these
+          ∙ ap₂ _++_ (ap (bits 7) same-count) (tree ∙ ap (λ (l : List ℕ). treeBits t ++ l) zeros)
+          ∙ sym (append-assoc (bits 7 (suc m - 1)) (treeBits t) (replicate (length left) 0));
       small = b;
     } in
     record {
@@ -103,7 +99,7 @@ found bytes after-count left m t b count tree a =
     }
 
 pub layout-decode : (bytes : List ℕ) (n : ℕ) (t : Tree) → AllBelow 256 bytes → decode bytes ≡ some (n, t) → IsRecord bytes n t
-unfolding decode accepted
+unfolding decode
 layout-decode bytes n t b e =
     after _ _ e λ c got-count then-tree.
     after _ _ then-tree λ r got-tree then-tests.

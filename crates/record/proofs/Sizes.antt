@@ -126,8 +126,7 @@ mutual
   fits-below : (t : Tree) → AllBelow 128 (leaves t) → length (leaves t) ≤ 128 → Fits t
   fits-below (leaf j) h l = below-head h
   fits-below (node k t f) h l =
-      let sum = length-append (leaves t) (forestLeaves f) in
-      (
+      let sum = length-append (leaves t) (forestLeaves f) in (
         omega (arith, forest-groups f, groups-lt t),
         fits-below t (below-left (leaves t) (forestLeaves f) h) (omega arith),
         fitsForest-below f (below-right (leaves t) (forestLeaves f) h) (omega arith),
@@ -136,8 +135,7 @@ mutual
   fitsForest-below : (f : Forest) → AllBelow 128 (forestLeaves f) → length (forestLeaves f) ≤ 128 → FitsForest f
   fitsForest-below (last t) h l = fits-below t h l
   fitsForest-below (more t f) h l =
-      let sum = length-append (leaves t) (forestLeaves f) in
-      (
+      let sum = length-append (leaves t) (forestLeaves f) in (
         fits-below t (below-left (leaves t) (forestLeaves f) h) (omega arith),
         fitsForest-below f (below-right (leaves t) (forestLeaves f) h) (omega arith),
       )

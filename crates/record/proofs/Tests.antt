@@ -39,8 +39,9 @@ zero-all (suc k) = zero-all k
 pub fills-zeros : (k : ℕ) → k < 8 → fills (replicate k 0) ≡ true
 unfolding fills
 fills-zeros k h =
-    let few : length {A = ℕ} (replicate k 0) < 8 = rw (length-replicate {A = ℕ} k 0) h in
-    and-intro (ltb (length {A = ℕ} (replicate k 0)) 8) (all (eqb 0) (replicate k 0)) (lt-true (length {A = ℕ} (replicate k 0)) 8 few) (zero-all k)
+    let zeros : List ℕ = replicate k 0 in
+    let few : length zeros < 8 = rw (length-replicate {A = ℕ} k 0) h in
+    and-intro (ltb (length zeros) 8) (all (eqb 0) zeros) (lt-true (length zeros) 8 few) (zero-all k)
 
 pub zeros-fill : (rest : List ℕ) → fills rest ≡ true → (length rest < 8) × (rest ≡ replicate (length rest) 0)
 unfolding fills
