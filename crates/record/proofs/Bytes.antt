@@ -1,16 +1,17 @@
 -- Bytes and their bits.
-use Prim.Native.Nat.{ℕ, zero, suc, _+_, _*_, _/_, _%_, _^_, _≤_, _<_}
+use Prim.Native.Nat.{ℕ, zero, suc, _+_, _*_, _%_, _^_, _<_}
 use mathlib.Core.Path.{_≡_, refl, sym, ap, ap₂, subst, _∙_}
 use mathlib.Core.List.{List, [], _∷_, _++_, append-assoc, append-nil}
-use mathlib.Core.Option.{Option, some, Option·some-injective}
+use mathlib.Core.Option.{Option·some-injective}
 use native.Mathlib.Nat.{add-zero, zero-div}
 use native.Mathlib.Omega.{arith}
 use lib.ListN.{length, length-append, replicate, length-replicate}
-use lib.Pow.{shl-lt}
+use lib.Pow.{pow-pos, shl-lt}
 use lib.Seq.{append-snoc}
 use Rattle.record.specs.Bits.{AllBelow, bits, packed, bytesOf, bitsOf}
 use Rattle.record.specs.Decode.{readBits}
-use Rattle.record.proofs.Fields.{below-nil, below-cons, below-head, below-tail, below-append, length-bits, pow-pos, bits-below, bit-alone, bits-append, bits-snoc, read-bits}
+use Rattle.record.proofs.Below.{below-nil, below-cons, below-head, below-tail, below-append}
+use Rattle.record.proofs.Fields.{length-bits, bits-below, bit-alone, bits-append, bits-snoc, read-bits}
 
 pub length-bitsOf : (bytes : List ℕ) → length (bitsOf bytes) ≡ 8 * length bytes
 unfolding bitsOf

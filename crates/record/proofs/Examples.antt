@@ -3,10 +3,9 @@ use Prim.Native.Nat.{ℕ}
 use mathlib.Core.Path.{_≡_, refl}
 use mathlib.Core.List.{List, [], _∷_, map}
 use mathlib.Core.Option.{Option, none, some, bind}
-use Rattle.poset.specs.Lists.{member, count, any, upFrom, below, onlyIf}
+use Rattle.poset.specs.Lists.{count, upFrom, below, onlyIf}
 use Rattle.poset.specs.Tree.{series, parallel, Tree, leaf, node, last, more, leaves, least, alternates, ahead, canonical}
-use Rattle.record.specs.Bits.{bits, bitsOf, bytesOf, packed}
-use Rattle.record.specs.Layout.{kindBit, moreChildren, treeBits, layout}
+use Rattle.record.specs.Bits.{bits, bitsOf}
 use Rattle.record.specs.Decode.{readBits, kindOf, readForest, grouped, readTree, all, fills, spanning, decode}
 
 -- bytes, and what they decode to
@@ -29,5 +28,6 @@ examples =
     ∷ []
 
 pub decoded : map (λ (e : Example). decode (e .0)) examples ≡ map (λ (e : Example). e .1) examples
-unfolding bind count upFrom below onlyIf leaves least alternates ahead canonical bits bitsOf readBits kindOf readForest grouped readTree all fills spanning decode
+unfolding bind count upFrom below onlyIf leaves least alternates ahead canonical
+    bits bitsOf readBits kindOf readForest grouped readTree all fills spanning decode
 decoded = refl

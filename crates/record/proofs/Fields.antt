@@ -1,46 +1,19 @@
 -- Fields of bits: a number's bits, and the number read back.
-use Prim.Native.Nat.{ℕ, zero, suc, _+_, _*_, _/_, _%_, _^_, _≤_, _<_}
+use Prim.Native.Nat.{ℕ, zero, suc, _+_, _*_, _/_, _%_, _^_, _<_}
 use mathlib.Core.Path.{_≡_, refl, sym, ap, ap₂, subst, _∙_}
-use mathlib.Core.List.{List, [], _∷_, _++_, List·Memᴰ, List·Memᴰ·head, List·Memᴰ·tail, List·Memᴰ·cases-cons, List·Memᴰ·not-nil, List·Memᴰ·append-cases, Memᴰ·append-left, Memᴰ·append-right}
-use mathlib.Core.Option.{Option, none, some, bind, bind-eq-some-iff, Option·none-ne-some, Option·some-injective}
-use mathlib.Core.Logic.{⊎-elim}
-use native.Mathlib.Nat.{zero-add, suc-add, add-comm, pow-suc, mul-add-div-right, one-le-pow, mod-one, mod-lt, mod-eq-of-lt}
+use mathlib.Core.List.{List, [], _∷_, _++_}
+use mathlib.Core.Option.{some, bind, bind-eq-some-iff, Option·none-ne-some, Option·some-injective}
+use native.Mathlib.Nat.{zero-add, suc-add, add-comm, pow-suc, mul-add-div-right, mod-one, mod-lt, mod-eq-of-lt}
 use native.Mathlib.Numerals.{add-one}
 use native.Mathlib.Omega.{arith}
 use lib.Arith.{digits-lt}
 use lib.ListN.{length}
-use lib.Pow.{high, shr-shr, mod-pow-add}
+use lib.Pow.{pow-pos, high, shr-shr, mod-pow-add}
 use Rattle.record.specs.Bits.{AllBelow, bits}
 use Rattle.record.specs.Decode.{readBits}
-
--- numbers below a bound
-
-module _ {m : ℕ} where
-  pub below-nil : AllBelow m []
-  below-nil x i = absurd (List·Memᴰ·not-nil i)
-
-  pub below-cons : {y : ℕ} {ys : List ℕ} → y < m → AllBelow m ys → AllBelow m (y ∷ ys)
-  below-cons {y} h hs x i = ⊎-elim (λ (e : x ≡ y). omega arith) (λ j. hs x j) (List·Memᴰ·cases-cons i)
-
-  pub below-head : {y : ℕ} {ys : List ℕ} → AllBelow m (y ∷ ys) → y < m
-  below-head {y} h = h y (List·Memᴰ·head refl)
-
-  pub below-tail : {y : ℕ} {ys : List ℕ} → AllBelow m (y ∷ ys) → AllBelow m ys
-  below-tail h x i = h x (List·Memᴰ·tail i)
-
-  pub below-append : {xs ys : List ℕ} → AllBelow m xs → AllBelow m ys → AllBelow m (xs ++ ys)
-  below-append {xs} p q x i = ⊎-elim (λ j. p x j) (λ j. q x j) (List·Memᴰ·append-cases xs i)
-
-  pub below-left : (xs ys : List ℕ) → AllBelow m (xs ++ ys) → AllBelow m xs
-  below-left xs ys h x i = h x (Memᴰ·append-left ys i)
-
-  pub below-right : (xs ys : List ℕ) → AllBelow m (xs ++ ys) → AllBelow m ys
-  below-right xs ys h x i = h x (Memᴰ·append-right xs i)
+use Rattle.record.proofs.Below.{below-nil, below-cons, below-head, below-tail}
 
 -- a number's bits
-
-pub pow-pos : (k : ℕ) → 0 < 2 ^ k
-pow-pos k = one-le-pow k 2 (omega arith)
 
 pub length-bits : (k x : ℕ) → length (bits k x) ≡ k
 unfolding bits

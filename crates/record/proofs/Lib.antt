@@ -1,3 +1,4 @@
+pub mod Below
 pub mod Fields
 pub mod Bytes
 pub mod Sizes

@@ -1,16 +1,16 @@
 -- Trees read back from their bits.
-use Prim.Native.Nat.{ℕ, zero, suc, _+_, _*_, _^_, _≤_, _<_}
+use Prim.Native.Nat.{ℕ, zero, suc, _^_, _<_}
 use mathlib.Core.Path.{_≡_, refl, sym, ap, ap₂, subst, _∙_}
 use mathlib.Core.List.{List, [], _∷_, _++_, append-assoc}
-use mathlib.Core.Option.{Option, none, some, bind, bind-eq-some-iff, Option·none-ne-some, Option·some-injective}
+use mathlib.Core.Option.{Option, some, bind, bind-eq-some-iff, Option·none-ne-some, Option·some-injective}
 use native.Mathlib.Nat.{suc-inj}
 use native.Mathlib.Omega.{arith}
-use lib.ListN.{length}
 use Rattle.poset.specs.Tree.{Kind, series, parallel, Tree, leaf, node, Forest, last, more, groups, forestGroups}
 use Rattle.record.specs.Bits.{AllBelow, bits}
 use Rattle.record.specs.Layout.{kindBit, moreChildren, treeBits, forestBits}
 use Rattle.record.specs.Decode.{Reader, readBits, kindOf, readForest, grouped, readTree}
-use Rattle.record.proofs.Fields.{below-head, below-tail, below-right, bit-alone, read-back, Read, bits-read}
+use Rattle.record.proofs.Below.{below-head, below-tail, below-right}
+use Rattle.record.proofs.Fields.{bit-alone, read-back, Read, bits-read}
 use Rattle.record.proofs.Sizes.{forest-groups, Fits, FitsForest}
 
 -- a laid out tree is read

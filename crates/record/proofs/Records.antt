@@ -1,20 +1,21 @@
 -- The decoder and the layout: each undoes the other.
-use Prim.Native.Nat.{ℕ, zero, suc, _+_, _-_, _*_, _/_, _^_, _≤_, _<_}
-use mathlib.Core.Path.{_≡_, refl, sym, ap, ap₂, subst, _∙_}
-use mathlib.Core.List.{List, [], _∷_, _++_, append-assoc}
+use Prim.Native.Nat.{ℕ, suc, _+_, _-_, _*_, _/_, _^_, _≤_, _<_}
+use mathlib.Core.Path.{_≡_, sym, ap, ap₂, subst, _∙_}
+use mathlib.Core.List.{List, _++_, append-assoc}
 use mathlib.Core.Bool.{Bool, true, _&&_}
-use mathlib.Core.Option.{Option, none, some, bind, Option·some-injective}
+use mathlib.Core.Option.{none, some, bind, Option·some-injective}
 use mathlib.Core.Logic.{_↔_, ⊎-elim}
 use native.Mathlib.Omega.{arith}
-use lib.ListN.{length, length-append, replicate, length-replicate}
+use lib.ListN.{length, length-append, replicate}
 use Rattle.poset.specs.Lists.{onlyIf}
 use Rattle.poset.specs.Tree.{Tree, leaves, groups, Spans, canonical}
 use Rattle.poset.proofs.Laws.{and-left, and-right, and-intro, only-if-some, found-or-none, found-clash}
-use Rattle.record.specs.Bits.{AllBelow, bits, bytesOf, bitsOf}
+use Rattle.record.specs.Bits.{AllBelow, bits, bitsOf}
 use Rattle.record.specs.Layout.{treeBits, layout, IsRecord}
 use Rattle.record.specs.Decode.{readBits, readTree, fills, spanning, decode}
-use Rattle.record.proofs.Fields.{below-append, length-bits, bits-below, read-back, Read, bits-read}
-use Rattle.record.proofs.Bytes.{Filled, length-bitsOf, bitsOf-below, bytes-filled, filled-length, filled-unique}
+use Rattle.record.proofs.Below.{below-append}
+use Rattle.record.proofs.Fields.{length-bits, bits-below, read-back, Read, bits-read}
+use Rattle.record.proofs.Bytes.{Filled, bitsOf-below, bytes-filled, filled-length, filled-unique}
 use Rattle.record.proofs.Sizes.{length-leaves, groups-lt, length-treeBits, treeBits-below, spans-fits}
 use Rattle.record.proofs.Reading.{after, below-rest, read-tree, tree-read}
 use Rattle.record.proofs.Tests.{fills-zeros, zeros-fill, spanning-spans}
@@ -91,8 +92,8 @@ found bytes after-count left m t b count tree a =
       small = b;
     } in
     record {
-      some-job = omega arith;
-      few-jobs = omega arith;
+      least = omega arith;
+      most = omega arith;
       spans = spanning-spans (suc m) t .0 (and-right (canonical t) (spanning (suc m) t) tests);
       plain = and-left (canonical t) (spanning (suc m) t) tests;
       spelt = filled-unique (layout-filled (suc m) t) filled;
@@ -112,7 +113,7 @@ layout-decode bytes n t b e =
 
 pub record-decodes : (bytes : List ℕ) (n : ℕ) (t : Tree) → IsRecord bytes n t → decode bytes ≡ some (n, t)
 record-decodes bytes n t r =
-    subst (λ (b : List ℕ). decode b ≡ some (n, t)) (r .spelt) (decode-layout n t (r .some-job) (r .few-jobs) (r .spans) (r .plain))
+    subst (λ (b : List ℕ). decode b ≡ some (n, t)) (r .spelt) (decode-layout n t (r .least) (r .most) (r .spans) (r .plain))
 
 pub decode-record : (bytes : List ℕ) (n : ℕ) (t : Tree) → AllBelow 256 bytes → (decode bytes ≡ some (n, t)) ↔ IsRecord bytes n t
 decode-record bytes n t b = (layout-decode bytes n t b, record-decodes bytes n t)

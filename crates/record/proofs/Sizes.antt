@@ -14,7 +14,8 @@ use Rattle.poset.proofs.Shape.{leaves-in}
 use Rattle.poset.proofs.Meaning.{spans-holds}
 use Rattle.record.specs.Bits.{AllBelow, bits}
 use Rattle.record.specs.Layout.{kindBit, moreChildren, treeBits, forestBits}
-use Rattle.record.proofs.Fields.{below-nil, below-cons, below-head, below-tail, below-append, below-left, below-right, bits-below, length-bits}
+use Rattle.record.proofs.Below.{below-nil, below-cons, below-head, below-tail, below-append, below-left, below-right}
+use Rattle.record.proofs.Fields.{bits-below, length-bits}
 
 -- as many leaves as jobs
 

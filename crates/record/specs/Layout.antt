@@ -1,7 +1,7 @@
 -- The record of a tree. (Document 01: 7 bits, job count minus 1; then the plain tree, node before children.)
-use Prim.Native.Nat.{ℕ, zero, suc, _-_, _<_, _≤_}
+use Prim.Native.Nat.{ℕ, suc, _-_, _<_, _≤_}
 use mathlib.Core.Path.{_≡_}
-use mathlib.Core.List.{List, [], _∷_, _++_}
+use mathlib.Core.List.{List, _∷_, _++_}
 use mathlib.Core.Bool.{true}
 use Rattle.poset.specs.Tree.{Kind, series, parallel, Tree, leaf, node, Forest, last, more, Spans, canonical}
 use Rattle.record.specs.Bits.{bits, bytesOf}
@@ -29,8 +29,8 @@ layout n t = bytesOf (bits 7 (n - 1) ++ treeBits t)
 
 -- the bytes are the record of a canonical tree on n jobs
 pub record IsRecord (bytes : List ℕ) (n : ℕ) (t : Tree) : Type 0 where
-  pub some-job : 0 < n
-  pub few-jobs : n ≤ 128
+  pub least : 0 < n
+  pub most : n ≤ 128
   pub spans : Spans n t
   pub plain : canonical t ≡ true
   pub spelt : layout n t ≡ bytes
