@@ -1,6 +1,6 @@
 -- Lists of numbers below a bound.
 use Prim.Native.Nat.{ℕ, _<_}
-use mathlib.Core.Path.{_≡_, refl}
+use mathlib.Core.Path.{_≡_, refl, subst}
 use mathlib.Core.List.{List, [], _∷_, _++_, List·Memᴰ·head, List·Memᴰ·tail, List·Memᴰ·cases-cons, List·Memᴰ·not-nil}
 use mathlib.Core.List.{Memᴰ·append-left, Memᴰ·append-right, List·Memᴰ·append-cases}
 use mathlib.Core.Logic.{⊎-elim}
@@ -28,3 +28,7 @@ module _ {m : ℕ} where
 
   pub below-right : (xs ys : List ℕ) → AllBelow m (xs ++ ys) → AllBelow m ys
   below-right xs ys h x i = h x (Memᴰ·append-right xs i)
+
+  -- what follows a part of such a list
+  pub below-rest : (xs : List ℕ) {bs rest : List ℕ} → AllBelow m bs → bs ≡ xs ++ rest → AllBelow m rest
+  below-rest xs {rest = rest} h e = below-right xs rest (subst (AllBelow m) e h)

@@ -2,7 +2,7 @@
 use Prim.Native.Nat.{ℕ, zero, suc, _+_, _*_, _/_, _%_, _^_, _<_}
 use mathlib.Core.Path.{_≡_, refl, sym, ap, ap₂, subst, _∙_}
 use mathlib.Core.List.{List, [], _∷_, _++_}
-use mathlib.Core.Option.{some, bind, bind-eq-some-iff, Option·none-ne-some, Option·some-injective}
+use mathlib.Core.Option.{Option, some, bind, bind-eq-some-iff, Option·none-ne-some, Option·some-injective}
 use native.Mathlib.Nat.{zero-add, suc-add, add-comm, pow-suc, mul-add-div-right, mod-one, mod-lt, mod-eq-of-lt}
 use native.Mathlib.Numerals.{add-one}
 use native.Mathlib.Omega.{arith}
@@ -54,10 +54,9 @@ bits-snoc k x b h =
     ap (λ (n : ℕ). bits n (x * 2 + b)) (sym (add-one k)) ∙ bits-append k 1 x b h ∙ ap (λ (l : List ℕ). bits k x ++ l) (bit-alone b h)
 
 bits-cons : (k b x : ℕ) → b < 2 → x < 2 ^ k → bits (suc k) (b * 2 ^ k + x) ≡ b ∷ bits k x
-unfolding bits
 bits-cons k b x h l =
-    let top : b % 2 ≡ b = omega arith in
-    ap₂ _∷_ (ap (λ (y : ℕ). y % 2) (high b k l) ∙ top) (bits-low k b x)
+    let one : suc k ≡ 1 + k = omega arith in
+    ap (λ (n : ℕ). bits n (b * 2 ^ k + x)) one ∙ bits-append 1 k b x l ∙ ap (λ (l : List ℕ). l ++ bits k x) (bit-alone b h)
 
 -- the number read back
 
@@ -71,24 +70,27 @@ read-bits (suc k) x rest =
 pub read-back : (k x : ℕ) (rest : List ℕ) → x < 2 ^ k → readBits k (bits k x ++ rest) ≡ some (x, rest)
 read-back k x rest h = read-bits k x rest ∙ ap (λ (y : ℕ). some (y, rest)) (mod-eq-of-lt h)
 
--- what was read, and its bounds
+-- what a step gave, where the rest of the steps follows it
+pub after : {A B P : Type 0} (o : Option A) (g : A → Option B) {b : B} → bind o g ≡ some b → ((a : A) → o ≡ some a → g a ≡ some b → P) → P
+after o g e then = let r = bind-eq-some-iff o g .0 e in then (r .0) (r .1) (r .2)
+
+-- the bits are those of a number of k bits, and the rest
 pub record Read (k : ℕ) (bs : List ℕ) (x : ℕ) (rest : List ℕ) : Type 0 where
   pub these : bs ≡ bits k x ++ rest
   pub small : x < 2 ^ k
 
+one-more : (k b x : ℕ) (bs rest : List ℕ) → b < 2 → Read k bs x rest → Read (suc k) (b ∷ bs) (b * 2 ^ k + x) rest
+one-more k b x bs rest h r = record {
+  these = ap (λ (l : List ℕ). b ∷ l) (r .these) ∙ ap (λ (l : List ℕ). l ++ rest) (sym (bits-cons k b x h (r .small)));
+  small = omega (arith, digits-lt h (r .small));
+}
+
 pub bits-read : (k : ℕ) (bs : List ℕ) {x : ℕ} {rest : List ℕ} → AllBelow 2 bs → readBits k bs ≡ some (x, rest) → Read k bs x rest
 unfolding bits readBits
-bits-read zero bs {x} {rest} h e =
-    let p = Option·some-injective (0, bs) (x, rest) e in
-    subst (λ (r : ℕ × List ℕ). Read 0 bs (r .0) (r .1)) p (record { these = refl; small = omega arith })
+bits-read zero bs h e =
+    subst (λ (r : ℕ × List ℕ). Read 0 bs (r .0) (r .1)) (Option·some-injective _ _ e) (record { these = refl; small = omega arith })
 bits-read (suc k) [] {x} {rest} h e = absurd (Option·none-ne-some (x, rest) e)
-bits-read (suc k) (b ∷ bs) {x} {rest} h e =
-    let (y, got, same) = bind-eq-some-iff _ _ .0 e in
-    let p = Option·some-injective (b * 2 ^ k + y .0, y .1) (x, rest) same in
-    subst (λ (r : ℕ × List ℕ). Read (suc k) (b ∷ bs) (r .0) (r .1)) p (more (y .0) (y .1) (bits-read k bs (below-tail h) got))
-  where
-    more : (y : ℕ) (left : List ℕ) → Read k bs y left → Read (suc k) (b ∷ bs) (b * 2 ^ k + y) left
-    more y left r = record {
-      these = ap (λ (l : List ℕ). b ∷ l) (r .these) ∙ ap (λ (l : List ℕ). l ++ left) (sym (bits-cons k b y (below-head h) (r .small)));
-      small = omega (arith, digits-lt (below-head h) (r .small));
-    }
+bits-read (suc k) (b ∷ bs) h e =
+    after _ _ e λ y got same.
+    subst (λ (r : ℕ × List ℕ). Read (suc k) (b ∷ bs) (r .0) (r .1)) (Option·some-injective _ _ same)
+    (one-more k b (y .0) bs (y .1) (below-head h) (bits-read k bs (below-tail h) got))

@@ -2,16 +2,17 @@
 use Prim.Native.Nat.{ℕ, zero, suc, _^_, _<_}
 use mathlib.Core.Path.{_≡_, refl, sym, ap, ap₂, subst, _∙_}
 use mathlib.Core.List.{List, [], _∷_, _++_, append-assoc}
-use mathlib.Core.Option.{Option, some, bind, bind-eq-some-iff, Option·none-ne-some, Option·some-injective}
+use mathlib.Core.Option.{some, bind, Option·none-ne-some, Option·some-injective}
 use native.Mathlib.Nat.{suc-inj}
 use native.Mathlib.Omega.{arith}
-use Rattle.poset.specs.Tree.{Kind, series, parallel, Tree, leaf, node, Forest, last, more, groups, forestGroups}
+use lib.ListN.{length-append}
+use Rattle.poset.specs.Tree.{Kind, series, parallel, Tree, leaf, node, Forest, last, more, leaves, forestLeaves, groups, forestGroups}
 use Rattle.record.specs.Bits.{AllBelow, bits}
 use Rattle.record.specs.Layout.{kindBit, moreChildren, treeBits, forestBits}
 use Rattle.record.specs.Decode.{Reader, readBits, kindOf, readForest, grouped, readTree}
-use Rattle.record.proofs.Below.{below-head, below-tail, below-right}
-use Rattle.record.proofs.Fields.{bit-alone, read-back, Read, bits-read}
-use Rattle.record.proofs.Sizes.{forest-groups, Fits, FitsForest}
+use Rattle.record.proofs.Below.{below-head, below-tail, below-rest}
+use Rattle.record.proofs.Fields.{bit-alone, read-back, after, Read, bits-read}
+use Rattle.record.proofs.Sizes.{groups-lt, forest-groups, Small, small-left, small-right}
 
 -- a laid out tree is read
 
@@ -48,40 +49,33 @@ unfolding readTree grouped bind
 read-group d m k t f bs rest h e = rw (read-kind k (bits 7 m ++ bs), read-back 7 m bs h, e, kind-back k)
 
 mutual
-  unfolding readTree bind treeBits groups moreChildren
+  unfolding readTree bind treeBits leaves groups moreChildren
 
-  pub read-tree : (t : Tree) (d : ℕ) → Fits t → groups t < d → (rest : List ℕ) → readTree d (treeBits t ++ rest) ≡ some (t, rest)
+  pub read-tree : (t : Tree) (d : ℕ) → Small (leaves t) → groups t < d → (rest : List ℕ) → readTree d (treeBits t ++ rest) ≡ some (t, rest)
   read-tree (leaf j) zero h l rest = absurd (omega arith)
-  read-tree (leaf j) (suc d) h l rest = rw (read-back 7 j rest h)
+  read-tree (leaf j) (suc d) h l rest = rw (read-back 7 j rest (below-head (h .0)))
   read-tree (node k t f) zero h l rest = absurd (omega arith)
   read-tree (node k t f) (suc d) h l rest =
       let (c, e) = others f in
       let children =
       read-more (readTree d) t rest c f
-      (λ left. read-tree t d (h .1) (omega arith) left)
-      (read-forest f d c e (h .2) (omega arith) rest) in
+      (λ left. read-tree t d (small-left (leaves t) (forestLeaves f) h) (omega arith) left)
+      (read-forest f d c e (small-right (leaves t) (forestLeaves f) h) (omega arith) rest) in
+      let few : moreChildren f < 2 ^ 7 = omega (arith, h .1, length-append (leaves t) (forestLeaves f), groups-lt t, forest-groups f) in
       rw (append-assoc (bits 7 (moreChildren f)) (treeBits t ++ forestBits f) rest)
-      (read-group d (moreChildren f) k t f (treeBits t ++ forestBits f ++ rest) rest (h .0) (rw e children))
+      (read-group d (moreChildren f) k t f (treeBits t ++ forestBits f ++ rest) rest few (rw e children))
 
-  read-forest : (f : Forest) (d c : ℕ) → moreChildren f ≡ suc c → FitsForest f → forestGroups f < d → (rest : List ℕ)
+  read-forest : (f : Forest) (d c : ℕ) → moreChildren f ≡ suc c → Small (forestLeaves f) → forestGroups f < d → (rest : List ℕ)
       → readForest (readTree d) c (forestBits f ++ rest) ≡ some (f, rest)
   read-forest (last t) d zero e h l rest = read-last (readTree d) t rest (read-tree t d h l rest)
   read-forest (last t) d (suc c) e h l rest = absurd (omega arith)
   read-forest (more t f) d zero e h l rest = absurd (omega (arith, forest-groups f))
   read-forest (more t f) d (suc c) e h l rest =
       read-more (readTree d) t rest c f
-      (λ left. read-tree t d (h .0) (omega arith) left)
-      (read-forest f d c (omega arith) (h .1) (omega arith) rest)
+      (λ left. read-tree t d (small-left (leaves t) (forestLeaves f) h) (omega arith) left)
+      (read-forest f d c (omega arith) (small-right (leaves t) (forestLeaves f) h) (omega arith) rest)
 
 -- what is read is a tree laid out
-
--- what a step gave, where the rest of the steps follows it
-pub after : {A B P : Type 0} (o : Option A) (g : A → Option B) {b : B} → bind o g ≡ some b → ((a : A) → o ≡ some a → g a ≡ some b → P) → P
-after o g e then = let r = bind-eq-some-iff o g .0 e in then (r .0) (r .1) (r .2)
-
--- the bits after those that were read are bits too
-pub below-rest : (xs : List ℕ) {bs rest : List ℕ} → AllBelow 2 bs → bs ≡ xs ++ rest → AllBelow 2 rest
-below-rest xs {rest = rest} h e = below-right xs rest (subst (AllBelow 2) e h)
 
 -- a reader of trees takes the bits of its tree and no others
 abbrev pub Sound : Reader Tree → Type 0

@@ -13,11 +13,11 @@ use Rattle.poset.proofs.Laws.{and-left, and-right, and-intro, only-if-some, fou
 use Rattle.record.specs.Bits.{AllBelow, bits, bitsOf}
 use Rattle.record.specs.Layout.{treeBits, layout, IsRecord}
 use Rattle.record.specs.Decode.{readBits, readTree, fills, spanning, decode}
-use Rattle.record.proofs.Below.{below-append}
-use Rattle.record.proofs.Fields.{length-bits, bits-below, read-back, Read, bits-read}
+use Rattle.record.proofs.Below.{below-append, below-rest}
+use Rattle.record.proofs.Fields.{length-bits, bits-below, read-back, after, Read, bits-read}
 use Rattle.record.proofs.Bytes.{Filled, bitsOf-below, bytes-filled, filled-length, filled-unique}
-use Rattle.record.proofs.Sizes.{length-leaves, groups-lt, length-treeBits, treeBits-below, spans-fits}
-use Rattle.record.proofs.Reading.{after, below-rest, read-tree, tree-read}
+use Rattle.record.proofs.Sizes.{length-leaves, groups-lt, length-treeBits, treeBits-below, spans-small}
+use Rattle.record.proofs.Reading.{read-tree, tree-read}
 use Rattle.record.proofs.Tests.{fills-zeros, zeros-fill, spanning-spans}
 
 -- the bits of a layout
@@ -66,7 +66,7 @@ decode-layout n t p l s c =
     omega (arith, length-append (treeBits t) zeros, length-treeBits t, groups-lt t) in
     decode-steps (layout n t) (treeBits t ++ zeros) zeros (n - 1) t
     (ap (readBits 7) (f .same ∙ append-assoc (bits 7 (n - 1)) (treeBits t) zeros) ∙ read-back 7 (n - 1) (treeBits t ++ zeros) (omega arith))
-    (read-tree t (length (treeBits t ++ zeros)) (spans-fits n t l s) enough zeros)
+    (read-tree t (length (treeBits t ++ zeros)) (spans-small n t l s) enough zeros)
     ∙ ap₂ onlyIf
     (and-intro (fills zeros) (canonical t && spanning (suc (n - 1)) t) (fills-zeros (f .fill) (f .few))
     (and-intro (canonical t) (spanning (suc (n - 1)) t) c (rw one-less (spanning-spans n t .1 s))))

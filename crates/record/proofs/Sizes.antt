@@ -1,5 +1,5 @@
 -- How many leaves, groups and bits a tree has.
-use Prim.Native.Nat.{ℕ, zero, suc, _+_, _*_, _^_, _≤_, _<_}
+use Prim.Native.Nat.{ℕ, zero, suc, _+_, _*_, _≤_, _<_}
 use mathlib.Core.Path.{_≡_, refl, sym, ap, _∙_}
 use mathlib.Core.List.{List, [], _∷_, _++_}
 use mathlib.Core.Bool.{Bool, cond}
@@ -110,36 +110,16 @@ mutual
   forestBits-below (last t) = treeBits-below t
   forestBits-below (more t f) = below-append (treeBits-below t) (forestBits-below f)
 
--- a tree whose fields all fit in 7 bits
+-- at most 128 leaves, all below 128: every field of the tree fits in 7 bits
 
-abbrev mutual
-  pub Fits : Tree → Type 0
-  Fits (leaf j) = j < 2 ^ 7
-  Fits (node k t f) = (moreChildren f < 2 ^ 7) × Fits t × FitsForest f
+abbrev pub Small : List ℕ → Type 0
+Small js = AllBelow 128 js × (length js ≤ 128)
 
-  pub FitsForest : Forest → Type 0
-  FitsForest (last t) = Fits t
-  FitsForest (more t f) = Fits t × FitsForest f
+pub small-left : (js ks : List ℕ) → Small (js ++ ks) → Small js
+small-left js ks h = (below-left js ks (h .0), omega (arith, h .1, length-append js ks))
 
-mutual
-  unfolding leaves
+pub small-right : (js ks : List ℕ) → Small (js ++ ks) → Small ks
+small-right js ks h = (below-right js ks (h .0), omega (arith, h .1, length-append js ks))
 
-  fits-below : (t : Tree) → AllBelow 128 (leaves t) → length (leaves t) ≤ 128 → Fits t
-  fits-below (leaf j) h l = below-head h
-  fits-below (node k t f) h l =
-      let sum = length-append (leaves t) (forestLeaves f) in (
-        omega (arith, forest-groups f, groups-lt t),
-        fits-below t (below-left (leaves t) (forestLeaves f) h) (omega arith),
-        fitsForest-below f (below-right (leaves t) (forestLeaves f) h) (omega arith),
-      )
-
-  fitsForest-below : (f : Forest) → AllBelow 128 (forestLeaves f) → length (forestLeaves f) ≤ 128 → FitsForest f
-  fitsForest-below (last t) h l = fits-below t h l
-  fitsForest-below (more t f) h l =
-      let sum = length-append (leaves t) (forestLeaves f) in (
-        fits-below t (below-left (leaves t) (forestLeaves f) h) (omega arith),
-        fitsForest-below f (below-right (leaves t) (forestLeaves f) h) (omega arith),
-      )
-
-pub spans-fits : (n : ℕ) (t : Tree) → n ≤ 128 → Spans n t → Fits t
-spans-fits n t l s = fits-below t (λ x i. omega (arith, leaves-below n t s x i)) (omega (arith, length-leaves n t s))
+pub spans-small : (n : ℕ) (t : Tree) → n ≤ 128 → Spans n t → Small (leaves t)
+spans-small n t l s = (λ x i. omega (arith, leaves-below n t s x i), omega (arith, length-leaves n t s))
