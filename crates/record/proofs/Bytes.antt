@@ -43,7 +43,7 @@ pub record Filled (bs bytes : List ℕ) : Type 0 where
   pub same : bitsOf bytes ≡ bs ++ replicate fill 0
   pub small : AllBelow 256 bytes
 
-bits-zero : (k : ℕ) → bits k 0 ≡ replicate k 0
+pub bits-zero : (k : ℕ) → bits k 0 ≡ replicate k 0
 unfolding bits
 bits-zero zero = refl
 bits-zero (suc k) = ap₂ _∷_ (rw (zero-div (2 ^ k))) (bits-zero k)

@@ -24,7 +24,7 @@ use Rattle.record.proofs.Tests.{fills-zeros, zeros-fill, spanning-spans
 abbrev fields : ℕ → Tree → List ℕ
 fields n t = bits 7 (n - 1) ++ treeBits t
 
-layout-filled : (n : ℕ) (t : Tree) → Filled (fields n t) (layout n t)
+pub layout-filled : (n : ℕ) (t : Tree) → Filled (fields n t) (layout n t)
 unfolding layout
 layout-filled n t = bytes-filled (fields n t) (below-append (bits-below 7 (n - 1)) (treeBits-below t))
 

@@ -71,7 +71,7 @@ mutual
 
 -- 8 bits a leaf, 9 a group
 
-kind-below : (k : Kind) → kindBit k < 2
+pub kind-below : (k : Kind) → kindBit k < 2
 unfolding kindBit
 kind-below series = omega arith
 kind-below parallel = omega arith

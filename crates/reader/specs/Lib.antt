@@ -1,0 +1,2 @@
+-- The record's reader: what its functions owe.
+pub mod Fields

@@ -1,0 +1,2 @@
+// A record read back: its job count, groups and sequences, or that the bytes are no record.
+mod nodes;
