@@ -1,2 +1,3 @@
 -- The record's reader: what its functions owe.
 pub mod Fields
+pub mod Parts

@@ -1,2 +1,3 @@
 // A record read back: its job count, groups and sequences, or that the bytes are no record.
 mod nodes;
+mod parts;
