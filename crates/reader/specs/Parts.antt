@@ -38,10 +38,9 @@ marked seen [] = seen
 marked seen (j ∷ js) = marked (set seen j 1) js
 
 -- a sequence from its first job a to its last b, each followed by its next
-abbrev pub Strand : List ℕ → ℕ → List ℕ → ℕ → Type 0
-Strand next a [] b = ⊥
-Strand next a (x ∷ []) b = (a ≡ x) × (b ≡ x)
-Strand next a (x ∷ y ∷ ys) b = (a ≡ x) × Strand next (getD next x 0) (y ∷ ys) b
+pub data Strand (next : List ℕ) : ℕ → List ℕ → ℕ → Type 0 where
+  alone : (a : ℕ) → Strand next a (a ∷ []) a
+  followed : (a : ℕ) {ys : List ℕ} {b : ℕ} → Strand next (getD next a 0) ys b → Strand next a (a ∷ ys) b
 
 -- the jobs are below n, none is below the floor or marked, and with those named so far they are at most n
 pub record Free (n floor done : ℕ) (seen js : List ℕ) : Type 0 where
