@@ -39,7 +39,7 @@ use Rattle.reader.specs.Parts.{Lists, marked, Strand, Free, Placed, Foun
 use Rattle.reader.specs.declared.parts.Part.{Part}
 use Rattle.reader.proofs.Positions.{at-left, at-right, at-join}
 use Rattle.reader.proofs.Strands.{strand-first, strand-last, strand-kept, strand-link}
-use Rattle.reader.proofs.Marks.{marked-append, sets-append, free-left, free-right, free-apart, free-join, free-small}
+use Rattle.reader.proofs.Marks.{length-marked, marked-append, sets-append, free-left, free-right, free-apart, free-join, free-small}
 use Rattle.reader.proofs.Inversion.{one-tree}
 
 -- the floor under the children of a group, and under those after one whose smallest job is m
@@ -160,13 +160,15 @@ pub record Bounded (p : Part) : Type 0 where
   pub lasts : p .last < 128
   pub few : p .groups < 128
 
-pub record Advanced (bs : List ℕ) (at : ℕ) (p : Part) : Type 0 where
+pub record Advanced (bs : List ℕ) (at : ℕ) (w v : Lists) (p : Part) : Type 0 where
   pub smallest : p .least < 128
   pub longer : at + 8 ≤ p .at
   pub within : p .at ≤ length bs
+  pub marks : length (v .seen) ≡ length (w .seen)
+  pub links : length (v .next) ≡ length (w .next)
 
 module _ (k : Kind) {bs : List ℕ} {n floor at done : ℕ} {w v : Lists} {p : Part} (small : n ≤ 128) where
-  pub child-bounded : Found ofTree (PlainUnder k) bs n floor at done w v p → p .ok ≡ true → Bounded p × Advanced bs at p
+  pub child-bounded : Found ofTree (PlainUnder k) bs n floor at done w v p → p .ok ≡ true → Bounded p × Advanced bs at w v p
   child-bounded r ok =
       let (t, may, free, placed) = r .some ok in (
         record {
@@ -178,6 +180,8 @@ module _ (k : Kind) {bs : List ℕ} {n floor at done : ℕ} {w v : Lists} {p : P
           smallest = omega (arith, placed .least, free .inside (least t) (in-leaves t (least-in t)));
           longer = omega (arith, placed .end, length-treeBits t, groups-lt t);
           within = omega (arith, placed .end, placed .stands .within);
+          marks = ap length (placed .seen) ∙ length-marked (w .seen) (leaves t);
+          links = placed .room;
         },
       )
 

@@ -6,3 +6,4 @@ pub mod Marks
 pub mod Inversion
 pub mod Child
 pub mod Children
+pub mod Calls

@@ -42,6 +42,14 @@ pub data Strand (next : List ℕ) : ℕ → List ℕ → ℕ → Type 0 where
   alone : (a : ℕ) → Strand next a (a ∷ []) a
   followed : (a : ℕ) {ys : List ℕ} {b : ℕ} → Strand next (getD next a 0) ys b → Strand next a (a ∷ ys) b
 
+-- what a reader is given: at most as many bytes and jobs as a record has, a position in them, and lists for 128 jobs
+pub record Ready (bytes : List ℕ) (n at : ℕ) (seen next : List ℕ) : Type 0 where
+  pub short : length bytes ≤ 272
+  pub few : n ≤ 128
+  pub start : at ≤ 2176
+  pub marks : length seen ≡ 128
+  pub links : length next ≡ 128
+
 -- the jobs are below n, none is below the floor or marked, and with those named so far they are at most n
 pub record Free (n floor done : ℕ) (seen js : List ℕ) : Type 0 where
   pub inside : (u : ℕ) → List·Memᴰ u js → u < n
