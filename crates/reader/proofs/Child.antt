@@ -17,7 +17,7 @@ use Rattle.record.specs.Layout.{kindBit, moreChildren, treeBits, forestBits}
 use Rattle.record.proofs.Fields.{length-bits}
 use Rattle.record.proofs.Sizes.{Small, forest-groups}
 use Rattle.reader.specs.Fields.{At, NodeAt, header}
-use Rattle.reader.specs.Parts.{Lists, Strand, alone, Free, Placed, Found, LeafRead, Grouped, ChildRead, ChildrenRead, PlainUnder, PlainChildren, ofTree, ofForest}
+use Rattle.reader.specs.Parts.{Lists, Strand, alone, Free, Placed, Found, LeafRead, Grouped, ChildRead, ChildrenRead, Plain, PlainUnder, PlainChildren, ofTree, ofForest}
 use Rattle.reader.specs.declared.nodes.Node.{Node}
 use Rattle.reader.specs.declared.parts.Part.{Part}
 use Rattle.reader.proofs.Positions.{at-join}
@@ -185,3 +185,38 @@ module _ (k : Kind) (bs : List ℕ) (n floor at done : ℕ) (few : n ≤ 128) (n
               (λ (ill : part .ok ≡ false).
               r .none ill (more (i .first) (i .others)) (ap suc (i .number), may-x .1 .0, may-x .1 .1) (free-floor 0 free-x (λ u m. omega arith)) (i .children))
               (decided (part .ok))
+
+-- a tree that stands in no group: the reader that takes it is that of the children of the other kind
+
+module _ (bs : List ℕ) (n floor at done : ℕ) (few : n ≤ 128) (nd : Node) (h : NodeAt bs at nd) (w v : Lists) (p : Part) where
+  any-kind : (k : Kind) → ((t : Tree) → Free n floor done (w .seen) (leaves t) → At bs at (treeBits t) → alternates k t ≡ true)
+      → Found ofTree (PlainUnder k) bs n floor at done w v p → Found ofTree Plain bs n floor at done w v p
+  any-kind k under r = record {
+    some = λ ok. let (t, may, free, placed) = r .some ok in (t, may .1, free, placed);
+    none = λ bad t may free s. r .none bad t (under t free s, may) free s;
+  }
+
+  group-under : (k : Kind) → nd .tag ≡ suc (kindBit (other k)) → (t : Tree) → Free n floor done (w .seen) (leaves t) → At bs at (treeBits t)
+      → alternates k t ≡ true
+  group-under k e t free s =
+      let g = only-group (other k) (nd .value) t (h .small) (free-small few free) (h .groupAt (other k) e) s in
+      ap (alternates k) (g .same) ∙ under-other k (g .first) (g .others)
+
+  pub chain-tree : nd .tag ≡ 1 → Found ofTree (PlainUnder parallel) bs n floor at done w v p → Found ofTree Plain bs n floor at done w v p
+  unfolding kindBit
+  chain-tree e = any-kind parallel (group-under parallel e)
+
+  pub side-tree : (nd .tag ≡ 1 → ⊥) → Found ofTree (PlainUnder series) bs n floor at done w v p → Found ofTree Plain bs n floor at done w v p
+  unfolding kindBit alternates
+  side-tree no-chain = any-kind series λ t free s.
+      ⊎-elim
+      (λ (e : nd .tag ≡ 0). ap (alternates series) (only-leaf (nd .value) t (h .small) (free-small few free) (h .leafAt e) s))
+      (λ rest. ⊎-elim (λ (e : nd .tag ≡ 2). group-under series e t free s) (λ (e : nd .tag ≡ 3). absurd (h .noneAt e t s)) rest)
+      (tags (h .tags))
+    where
+      tags : nd .tag ≤ 3 → (nd .tag ≡ 0) ⊎ ((nd .tag ≡ 2) ⊎ (nd .tag ≡ 3))
+      tags l =
+          ⊎-elim
+          (λ e. inr (inr e))
+          (λ (h : nd .tag < 3). ⊎-elim (λ (e : suc (nd .tag) ≡ 3). inr (inl (omega arith))) (λ (l′ : suc (nd .tag) < 3). inl (omega arith)) (eq-or-lt-of-le h))
+          (eq-or-lt-of-le l)

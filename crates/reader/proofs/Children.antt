@@ -76,7 +76,7 @@ behind parallel p q = p
 
 -- jobs in the reverse sequence
 
-reversed-in : (t : Tree) {u : ℕ} → List·Memᴰ u (reversed t) → List·Memᴰ u (leaves t)
+pub reversed-in : (t : Tree) {u : ℕ} → List·Memᴰ u (reversed t) → List·Memᴰ u (leaves t)
 reversed-in t {u} m = same-count-mem (reversed-count t u) m
 
 reversed-once : (t : Tree) (u : ℕ) → Once t → count u (reversed t) ≤ 1

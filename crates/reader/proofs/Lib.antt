@@ -7,3 +7,6 @@ pub mod Inversion
 pub mod Child
 pub mod Children
 pub mod Calls
+pub mod Walks
+pub mod Sequences
+pub mod Whole

@@ -120,7 +120,14 @@ linkedPart ahead behind at done =
       last = behind .last;
     }
 
--- a child of a group of kind k, and c + 1 children
+-- any tree, a child of a group of kind k, and c + 1 children of one
+
+abbrev pub TreeRead : List ℕ → (n floor at done : ℕ) (seen forward next seen' forward' next' : List ℕ) → Part → Type 0
+TreeRead bs n floor at done seen forward next seen' forward' next' =
+    Found ofTree Plain bs n floor at done
+    (record { seen = seen; forward = forward; next = next })
+    (record { seen = seen'; forward = forward'; next = next' })
+
 abbrev pub ChildRead
     : Kind → List ℕ → (n floor at done : ℕ) (seen forward next seen' forward' next' : List ℕ) → Part → Type 0
 ChildRead k bs n floor at done seen forward next seen' forward' next' =

@@ -8,7 +8,7 @@ use crate::parts::linked;
 use crate::parts::refused;
 ghost use Rattle.poset.specs.Tree.{series, parallel};
 ghost use Rattle.record.specs.Bits.{bitsOf};
-ghost use Rattle.reader.specs.Parts.{Ready, ChildRead, ChildrenRead};
+ghost use Rattle.reader.specs.Parts.{Ready, TreeRead, ChildRead, ChildrenRead};
 
 // `left` + 1 children of a chain, from `at` on.
 pub fn chain(
@@ -153,4 +153,23 @@ pub fn side_child(
     }
     let part = chain(bytes, count, node.value, at + 9, done, seen, forward, next);
     grouped(part, floor)
+}
+
+// The tree after the job count: what it begins with says which reader takes it.
+pub fn tree(
+    bytes: &[u8],
+    count: usize,
+    seen: &mut [u8; 128],
+    forward: &mut [u8; 128],
+    next: &mut [u8; 128],
+) -> Part
+    requires { ⌜ Ready (now bytes) count 7 (now seen) (now next) ⌝ }
+    ensures { λ r. ⌜ TreeRead (bitsOf (now (bytes .entry))) count 0 7 0
+        (now (seen .entry)) (now (forward .entry)) (now (next .entry)) (now (seen .exit)) (now (forward .exit)) (now (next .exit)) r ⌝ }
+{
+    let node = node_at(bytes, 7);
+    if node.tag == 1 {
+        return side_child(bytes, count, 0, 7, 0, seen, forward, next);
+    }
+    chain_child(bytes, count, 7, 0, seen, forward, next)
 }

@@ -9,9 +9,9 @@ use native.Mathlib.Omega.{arith}
 use lib.ListN.{length, length-append}
 use Rattle.poset.specs.Lists.{count}
 use Rattle.poset.specs.Tree.{Kind, series, parallel, Tree, leaf, node, Forest, last, more, leaves, forestLeaves, groups, forestGroups, Spans}
-use Rattle.poset.proofs.Laws.{lt-true, count-same, count-other}
-use Rattle.poset.proofs.Shape.{leaves-in}
-use Rattle.poset.proofs.Meaning.{spans-holds}
+use Rattle.poset.proofs.Laws.{lt-true, count-same, count-other, count-mem}
+use Rattle.poset.proofs.Shape.{Once, in-leaves, leaves-in}
+use Rattle.poset.proofs.Meaning.{once-count, spans-holds, holds-spans}
 use Rattle.record.specs.Bits.{AllBelow, bits}
 use Rattle.record.specs.Layout.{kindBit, moreChildren, treeBits, forestBits}
 use Rattle.record.proofs.Below.{below-nil, below-cons, below-head, below-tail, below-append, below-left, below-right}
@@ -55,6 +55,28 @@ module _ (n : ℕ) (t : Tree) (s : Spans n t) where
 
   pub length-leaves : length (leaves t) ≡ n
   length-leaves = sym (total-length n (leaves t) leaves-below) ∙ total-each n (leaves t) leaf-once
+
+-- where no job stands twice, as many leaves as jobs are all the jobs
+
+total-le : (n : ℕ) (xs : List ℕ) → ((u : ℕ) → count u xs ≤ 1) → total n xs ≤ n
+total-le zero xs h = omega arith
+total-le (suc n) xs h = omega (arith, total-le n xs h, h n)
+
+total-full : (n : ℕ) (xs : List ℕ) → ((u : ℕ) → count u xs ≤ 1) → total n xs ≡ n → (u : ℕ) → u < n → count u xs ≡ 1
+total-full zero xs h e u l = absurd (omega arith)
+total-full (suc n) xs h e u l =
+    ⊎-elim
+    (λ (q : suc u ≡ suc n). let same : u ≡ n = omega arith in ap (λ (v : ℕ). count v xs) same ∙ omega (arith, total-le n xs h, h n))
+    (λ (m : suc u < suc n). total-full n xs h (omega (arith, total-le n xs h, h n)) u (omega arith))
+    (eq-or-lt-of-le l)
+
+pub length-spans : (n : ℕ) (t : Tree) → Once t → AllBelow n (leaves t) → length (leaves t) ≡ n → Spans n t
+length-spans n t o h e =
+    holds-spans n t o (record {
+      inside = λ u i. h u (in-leaves t i);
+      outside = λ u l.
+          leaves-in t (count-mem u (leaves t) (omega (arith, total-full n (leaves t) (once-count t o) (total-length n (leaves t) h ∙ e) u l)));
+    })
 
 -- fewer groups than leaves
 
