@@ -115,26 +115,19 @@ module _ (k : Kind) (bs : List ℕ) (n floor at done : ℕ) (few : n ≤ 128) (n
     child-none not-leaf not-other bad =
         refusal bad λ t may free s.
         ⊎-elim
-        (λ e. h .noneAt e t s)
+        (λ e. h .noneAt e t (free-small few free) s)
         (λ e.
         let g = only-group k (nd .value) t (h .small) (free-small few free) (h .groupAt k e) s in
         clash (sym (ap (alternates k) (g .same)) ∙ may .0) (under-same k (g .first) (g .others)))
         (no-child k (nd .tag) (h .tags) not-leaf not-other)
 
     module _ (e : nd .tag ≡ suc (kindBit (other k))) where
-      -- a group of one child
-      pub child-single : nd .value ≡ 0 → p .ok ≡ false → ChildRead k bs n floor at done seen forward next seen' forward' next' p
-      child-single one bad =
-          refusal bad λ t may free s.
-          let g = only-group (other k) (nd .value) t (h .small) (free-small few free) (h .groupAt (other k) e) s in
-          omega (arith, g .number, forest-groups (g .others))
-
       -- a group: its children stand after its own bits
-      pub child-group : (part : Part) → (nd .value ≡ 0 → ⊥)
+      pub child-group : (part : Part)
           → ChildrenRead (other k) (nd .value) bs n 0 (at + 9) done seen forward next seen' forward' next' part → Grouped floor part p
           → ChildRead k bs n floor at done seen forward next seen' forward' next' p
       unfolding groupPart treeBits leaves least moreChildren
-      child-group part several r g = record { some = λ ok. found (g .some ok); none = missing }
+      child-group part r g = record { some = λ ok. found (g .some ok); none = missing }
         where
           l : Kind
           l = other k
@@ -151,7 +144,7 @@ module _ (k : Kind) (bs : List ℕ) (n floor at done : ℕ) (few : n ≤ 128) (n
           -- the children are those of a group
           as-group : (f : Forest) → PlainChildren l c f → Placed bs (at + 9) done w v part (ofForest l f) → (s : Tree) × (o : Forest)
               × (f ≡ more s o) × Placed bs at done w v (groupPart part) (ofTree (node l s o))
-          as-group (last s) may q = absurd (several (omega (arith, may .0)))
+          as-group (last s) may q = absurd (omega (arith, may .0, h .several l e))
           as-group (more s o) may q =
               let number : c ≡ moreChildren o = omega (arith, may .0) in
               (s, o, refl, group-placed bs at done w v part l s o (subst (λ (m : ℕ). At bs at (header l m)) number (h .groupAt l e)) q)
@@ -211,7 +204,7 @@ module _ (bs : List ℕ) (n floor at done : ℕ) (few : n ≤ 128) (nd : Node) (
   side-tree no-chain = any-kind series λ t free s.
       ⊎-elim
       (λ (e : nd .tag ≡ 0). ap (alternates series) (only-leaf (nd .value) t (h .small) (free-small few free) (h .leafAt e) s))
-      (λ rest. ⊎-elim (λ (e : nd .tag ≡ 2). group-under series e t free s) (λ (e : nd .tag ≡ 3). absurd (h .noneAt e t s)) rest)
+      (λ rest. ⊎-elim (λ (e : nd .tag ≡ 2). group-under series e t free s) (λ (e : nd .tag ≡ 3). absurd (h .noneAt e t (free-small few free) s)) rest)
       (tags (h .tags))
     where
       tags : nd .tag ≤ 3 → (nd .tag ≡ 0) ⊎ ((nd .tag ≡ 2) ⊎ (nd .tag ≡ 3))

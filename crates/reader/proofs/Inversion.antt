@@ -14,8 +14,7 @@ use Rattle.record.proofs.Fields.{length-bits}
 use Rattle.record.proofs.Sizes.{Small, groups-lt, forest-groups}
 use Rattle.record.proofs.Reading.{read-tree}
 use Rattle.reader.specs.Fields.{At, header}
-use Rattle.reader.proofs.Positions.{at-left, at-right, at-same}
-use Rattle.reader.proofs.Beginnings.{bits-injective}
+use Rattle.reader.proofs.Positions.{at-left, at-right, at-same, bits-injective}
 
 module _ {bs : List ℕ} {at : ℕ} where
   pub one-tree : (s t : Tree) → Small (leaves s) → Small (leaves t) → At bs at (treeBits s) → At bs at (treeBits t) → s ≡ t

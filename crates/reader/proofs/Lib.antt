@@ -1,9 +1,10 @@
 pub mod Positions
 pub mod Windows
+pub mod Filling
+pub mod Inversion
 pub mod Beginnings
 pub mod Strands
 pub mod Marks
-pub mod Inversion
 pub mod Child
 pub mod Children
 pub mod Calls

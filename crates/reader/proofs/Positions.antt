@@ -1,11 +1,15 @@
--- Lists at positions of a list.
-use Prim.Native.Nat.{ℕ, _+_, _≤_}
+-- Lists at positions of a list, and the bits of a number there.
+use Prim.Native.Nat.{ℕ, _+_, _^_, _≤_, _<_}
 use mathlib.Core.Path.{_≡_, sym, ap, subst, _∙_}
-use mathlib.Core.List.{List, _++_, append-assoc}
+use mathlib.Core.List.{List, [], _++_, append-assoc}
+use mathlib.Core.Option.{Option·some-injective}
 use native.Mathlib.Nat.{add-assoc}
 use native.Mathlib.Omega.{arith}
 use lib.ListN.{length, take, drop, length-append, length-drop, take-append-drop}
 use lib.Seq.{take-append-seam, drop-append-seam, drop-at, drop-drop, length-take-le}
+use Rattle.record.specs.Bits.{bits}
+use Rattle.record.specs.Decode.{readBits}
+use Rattle.record.proofs.Fields.{read-back}
 use Rattle.reader.specs.Fields.{At}
 
 module _ {bs : List ℕ} {at : ℕ} where
@@ -46,3 +50,9 @@ module _ {bs : List ℕ} {at : ℕ} where
       ∙ ap (take (length xs)) (sym (p .these) ∙ q .these)
       ∙ ap (λ (k : ℕ). take k (ys ++ drop (at + length ys) bs)) e
       ∙ take-append-seam ys _
+
+-- one number of k bits has them
+pub bits-injective : (k x y : ℕ) → x < 2 ^ k → y < 2 ^ k → bits k x ≡ bits k y → x ≡ y
+bits-injective k x y p q e =
+    ap (λ (r : ℕ × List ℕ). r .0)
+    (Option·some-injective _ _ (sym (read-back k x [] p) ∙ ap (λ (l : List ℕ). readBits k (l ++ [])) e ∙ read-back k y [] q))

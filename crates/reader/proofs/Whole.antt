@@ -26,8 +26,7 @@ use Rattle.reader.specs.Parts.{Lists, Free, Placed, Found, Plain, ofTree
 use Rattle.reader.specs.Answer.{padded, reading, Reads, walk}
 use Rattle.reader.specs.declared.parts.Part.{Part}
 use Rattle.reader.specs.declared.Reading.{Reading}
-use Rattle.reader.proofs.Positions.{at-of, at-left, at-right, at-join, at-same}
-use Rattle.reader.proofs.Beginnings.{bits-injective}
+use Rattle.reader.proofs.Positions.{at-of, at-left, at-right, at-join, at-same, bits-injective}
 use Rattle.reader.proofs.Marks.{free-small}
 use Rattle.reader.proofs.Inversion.{one-tree}
 use Rattle.reader.proofs.Sequences.{forward-leaves, walk-reversed, walk-below}

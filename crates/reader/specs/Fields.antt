@@ -3,9 +3,10 @@ use Prim.Native.Nat.{ℕ, suc, _+_, _≤_, _<_, _^_}
 use mathlib.Core.Path.{_≡_}
 use mathlib.Core.List.{List, _∷_, _++_}
 use lib.ListN.{length, drop}
-use Rattle.poset.specs.Tree.{Kind, Tree, leaf}
+use Rattle.poset.specs.Tree.{Kind, Tree, leaf, leaves}
 use Rattle.record.specs.Bits.{bits}
 use Rattle.record.specs.Layout.{kindBit, treeBits}
+use Rattle.record.proofs.Sizes.{Small}
 use Rattle.reader.specs.declared.nodes.Node.{Node}
 
 -- the list xs stands in bs from the position `at` on
@@ -26,6 +27,7 @@ header k c = 1 ∷ kindBit k ∷ bits 7 c
 pub record NodeAt (bs : List ℕ) (at : ℕ) (n : Node) : Type 0 where
   pub leafAt : n .tag ≡ 0 → At bs at (treeBits (leaf (n .value)))
   pub groupAt : (k : Kind) → n .tag ≡ suc (kindBit k) → At bs at (header k (n .value))
-  pub noneAt : n .tag ≡ 3 → (t : Tree) → At bs at (treeBits t) → ⊥
+  pub noneAt : n .tag ≡ 3 → (t : Tree) → Small (leaves t) → At bs at (treeBits t) → ⊥
+  pub several : (k : Kind) → n .tag ≡ suc (kindBit k) → 0 < n .value
   pub tags : n .tag ≤ 3
   pub small : n .value < 128

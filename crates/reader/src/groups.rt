@@ -69,9 +69,6 @@ pub fn chain_child(
     if node.tag != 2 {
         return refused();
     }
-    if node.value == 0 {
-        return refused();
-    }
     let part = side(
         bytes,
         count,
@@ -146,9 +143,6 @@ pub fn side_child(
         return leaf(count, floor, node.value, at + 8, done, seen, forward);
     }
     if node.tag != 1 {
-        return refused();
-    }
-    if node.value == 0 {
         return refused();
     }
     let part = chain(bytes, count, node.value, at + 9, done, seen, forward, next);

@@ -6,8 +6,8 @@ ghost use Rattle.record.specs.Bits.{bitsOf};
 ghost use Rattle.record.specs.Decode.{fills};
 ghost use Rattle.reader.specs.Fields.{FieldAt, NodeAt};
 
-// What a node begins with. tag: 0 a leaf, 1 a series group, 2 a parallel group, 3 none, as the bits end.
-// value: the job, or the children minus 1.
+// What a node begins with. tag: 0 a leaf, 1 a series group, 2 a parallel group, 3 none: the bits end, or a group has one
+// child. value: the job, or the children minus 1.
 pub struct Node {
     pub tag: usize,
     pub value: usize,
@@ -49,10 +49,13 @@ pub fn node_at(bytes: &[u8], at: usize) -> Node
     if end < at + 9 {
         return Node { tag: 3, value: 0 };
     }
-    let last = field(bytes, at + 8, 1);
+    let more = x % 64 * 2 + field(bytes, at + 8, 1);
+    if more == 0 {
+        return Node { tag: 3, value: 0 };
+    }
     Node {
         tag: x / 64 - 1,
-        value: x % 64 * 2 + last,
+        value: more,
     }
 }
 

@@ -1,5 +1,5 @@
 use borrow.Author.Needs.{needs}
-use Rattle.reader.proofs.Beginnings.{fills-none, fills-many, fills-field}
+use Rattle.reader.proofs.Filling.{fills-none, fills-many, fills-field}
 use Rattle.reader.proofs.nodes.filled.Statement.{statement}
 use Rattle.reader.proofs.nodes.filled.Tie as tie
 use Rattle.reader.proofs.nodes.filled.Reads as reads
