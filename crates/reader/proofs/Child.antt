@@ -1,0 +1,215 @@
+-- A child of a group of kind k: a leaf, or a group of the other kind.
+use Prim.Native.Nat.{ℕ, zero, suc, _+_, _≤_, _<_}
+use mathlib.Core.Path.{_≡_, refl, sym, ap, ap₂, subst, _∙_}
+use mathlib.Core.List.{List, [], _∷_, _++_, List·Memᴰ, List·Memᴰ·head, List·Memᴰ·eq-of-singleton}
+use mathlib.Core.Bool.{Bool, true, false}
+use mathlib.Core.Logic.{_⊎_, inl, inr, ⊎-elim}
+use native.Mathlib.Nat.{eq-or-lt-of-le}
+use native.Mathlib.Omega.{arith}
+use lib.ListN.{length, getD, length-append}
+use Rattle.poset.specs.Tree.{Kind, series, parallel, Tree, leaf, node, Forest, last, more, leaves, forestLeaves, reversed, least, groups, alternates}
+use Rattle.poset.proofs.Laws.{decided, clash}
+use Rattle.poset.proofs.Standing.{other}
+use Rattle.poset.proofs.Shape.{in-leaves, leaves-in}
+use Rattle.poset.proofs.Canonical.{least-in, least-le}
+use Rattle.record.specs.Bits.{bits}
+use Rattle.record.specs.Layout.{kindBit, moreChildren, treeBits, forestBits}
+use Rattle.record.proofs.Fields.{length-bits}
+use Rattle.record.proofs.Sizes.{Small, forest-groups}
+use Rattle.reader.specs.Fields.{At, NodeAt, header}
+use Rattle.reader.specs.Parts.{Lists, Strand, alone, Free, Placed, Found, LeafRead, Grouped, ChildRead, ChildrenRead, Plain, PlainUnder, PlainChildren, ofTree, ofForest}
+use Rattle.reader.specs.declared.nodes.Node.{Node}
+use Rattle.reader.specs.declared.parts.Part.{Part}
+use Rattle.reader.proofs.Positions.{at-join}
+use Rattle.reader.proofs.Marks.{free-small}
+use Rattle.reader.proofs.Inversion.{one-tree, only-leaf, only-group}
+
+under-other : (k : Kind) (t : Tree) (f : Forest) → alternates k (node (other k) t f) ≡ true
+unfolding alternates
+under-other series t f = refl
+under-other parallel t f = refl
+
+under-same : (k : Kind) (t : Tree) (f : Forest) → alternates k (node k t f) ≡ false
+unfolding alternates
+under-same series t f = refl
+under-same parallel t f = refl
+
+no-child : (k : Kind) (g : ℕ) → g ≤ 3 → (g ≡ 0 → ⊥) → (g ≡ suc (kindBit (other k)) → ⊥) → (g ≡ 3) ⊎ (g ≡ suc (kindBit k))
+unfolding kindBit
+no-child series g l p q = ⊎-elim (λ e. inl e) (λ h. inr (omega arith)) (eq-or-lt-of-le l)
+no-child parallel g l p q = ⊎-elim (λ e. inl e) (λ h. inr (omega arith)) (eq-or-lt-of-le l)
+
+-- the children of a group as the group
+groupPart : Part → Part
+groupPart q = record { ok = true; at = q .at; done = q .done; groups = q .groups + 1; least = q .least; first = q .first; last = q .last }
+
+group-placed : (bs : List ℕ) (at done : ℕ) (w v : Lists) (q : Part) (k : Kind) (t : Tree) (f : Forest) → At bs at (header k (moreChildren f))
+    → Placed bs (at + 9) done w v q (ofForest k (more t f)) → Placed bs at done w v (groupPart q) (ofTree (node k t f))
+unfolding groupPart treeBits leaves reversed least groups
+group-placed bs at done w v q k t f s r =
+    let head : List ℕ = header k (moreChildren f) in
+    let body : List ℕ = treeBits t ++ forestBits f in
+    let place : at + 9 ≡ at + length head = omega (arith, length-bits 7 (moreChildren f)) in
+    record {
+      stands = at-join head body s (subst (λ (i : ℕ). At bs i body) place (r .stands));
+      end = r .end ∙ omega (arith, length-append head body);
+      number = r .number;
+      groups = omega (arith, r .groups);
+      least = r .least;
+      seen = r .seen;
+      forward = r .forward;
+      strand = r .strand;
+      others = r .others;
+      room = r .room;
+    }
+
+free-floor : {n floor done : ℕ} {s js : List ℕ} (low : ℕ) → Free n floor done s js → ((u : ℕ) → List·Memᴰ u js → low ≤ u) → Free n low done s js
+free-floor low f above = record { inside = f .inside; above = above; unseen = f .unseen; room = f .room }
+
+module _ (k : Kind) (bs : List ℕ) (n floor at done : ℕ) (few : n ≤ 128) (nd : Node) (h : NodeAt bs at nd) (seen forward next : List ℕ) where
+  module _ (seen' forward' : List ℕ) (p : Part) where
+    pub child-leaf : nd .tag ≡ 0 → LeafRead n floor (nd .value) (at + 8) done seen forward seen' forward' p
+        → ChildRead k bs n floor at done seen forward next seen' forward' next p
+    unfolding treeBits leaves reversed least groups alternates
+    child-leaf e r =
+        let j : ℕ = nd .value in
+        record {
+          some = λ ok.
+              let (inside, above, unseen, room, marks, goes, same) = r .some ok in (
+                leaf j,
+                (refl, (tt, tt)),
+                record {
+                  inside = λ u m. subst (λ (v : ℕ). v < n) (sym (List·Memᴰ·eq-of-singleton m)) inside;
+                  above = λ u m. subst (λ (v : ℕ). floor ≤ v) (sym (List·Memᴰ·eq-of-singleton m)) above;
+                  unseen = λ u m. ap (λ (v : ℕ). getD seen v 0) (List·Memᴰ·eq-of-singleton m) ∙ unseen;
+                  room = omega arith;
+                },
+                record {
+                  stands = h .leafAt e;
+                  end = ap (λ (q : Part). q .at) same ∙ omega (arith, length-bits 7 j);
+                  number = ap (λ (q : Part). q .done) same ∙ omega arith;
+                  groups = ap (λ (q : Part). q .groups) same;
+                  least = ap (λ (q : Part). q .least) same;
+                  seen = marks;
+                  forward = goes;
+                  strand = subst (λ (q : Part). Strand next (q .first) (j ∷ []) (q .last)) (sym same) (alone j);
+                  others = λ u _. refl;
+                  room = refl;
+                },
+              );
+          none = λ bad t may free s.
+              subst (λ (t : Tree). Free n floor done seen (leaves t) → ⊥)
+              (sym (only-leaf j t (h .small) (free-small few free) (h .leafAt e) s))
+              (λ free. r .none bad (free .inside j (List·Memᴰ·head refl)) (free .above j (List·Memᴰ·head refl)) (free .unseen j (List·Memᴰ·head refl)) (omega (arith, free .room)))
+              free;
+        }
+
+  module _ (seen' forward' next' : List ℕ) (p : Part) where
+    refusal : p .ok ≡ false → ((t : Tree) → PlainUnder k t → Free n floor done seen (leaves t) → At bs at (treeBits t) → ⊥)
+        → ChildRead k bs n floor at done seen forward next seen' forward' next' p
+    refusal bad none = record { some = λ ok. absurd (clash ok bad); none = λ _. none }
+
+    -- no node, or a kind directly in its kind
+    pub child-none : (nd .tag ≡ 0 → ⊥) → (nd .tag ≡ suc (kindBit (other k)) → ⊥) → p .ok ≡ false
+        → ChildRead k bs n floor at done seen forward next seen' forward' next' p
+    child-none not-leaf not-other bad =
+        refusal bad λ t may free s.
+        ⊎-elim
+        (λ e. h .noneAt e t (free-small few free) s)
+        (λ e.
+        let g = only-group k (nd .value) t (h .small) (free-small few free) (h .groupAt k e) s in
+        clash (sym (ap (alternates k) (g .same)) ∙ may .0) (under-same k (g .first) (g .others)))
+        (no-child k (nd .tag) (h .tags) not-leaf not-other)
+
+    module _ (e : nd .tag ≡ suc (kindBit (other k))) where
+      -- a group: its children stand after its own bits
+      pub child-group : (part : Part)
+          → ChildrenRead (other k) (nd .value) bs n 0 (at + 9) done seen forward next seen' forward' next' part → Grouped floor part p
+          → ChildRead k bs n floor at done seen forward next seen' forward' next' p
+      unfolding groupPart treeBits leaves least moreChildren
+      child-group part r g = record { some = λ ok. found (g .some ok); none = missing }
+        where
+          l : Kind
+          l = other k
+
+          c : ℕ
+          c = nd .value
+
+          w : Lists
+          w = record { seen = seen; forward = forward; next = next }
+
+          v : Lists
+          v = record { seen = seen'; forward = forward'; next = next' }
+
+          -- the children are those of a group
+          as-group : (f : Forest) → PlainChildren l c f → Placed bs (at + 9) done w v part (ofForest l f) → (s : Tree) × (o : Forest)
+              × (f ≡ more s o) × Placed bs at done w v (groupPart part) (ofTree (node l s o))
+          as-group (last s) may q = absurd (omega (arith, may .0, h .several l e))
+          as-group (more s o) may q =
+              let number : c ≡ moreChildren o = omega (arith, may .0) in
+              (s, o, refl, group-placed bs at done w v part l s o (subst (λ (m : ℕ). At bs at (header l m)) number (h .groupAt l e)) q)
+
+          found : (part .ok ≡ true) × (floor ≤ part .least) × (p ≡ groupPart part)
+              → (t : Tree) × PlainUnder k t × Free n floor done seen (leaves t) × Placed bs at done w v p (ofTree t)
+          found (good, above, same) =
+              let (f, may, free, q) = r .some good in
+              let (s, o, split, placed) = as-group f may q in
+              let may-more : PlainChildren l c (more s o) = subst (PlainChildren l c) split may in
+              let free-more : Free n 0 done seen (forestLeaves (more s o)) = subst (λ (x : Forest). Free n 0 done seen (forestLeaves x)) split free in (
+                node l s o,
+                (under-other k s o, (may-more .1, may-more .2)),
+                free-floor floor free-more (λ u m. omega (arith, placed .least, least-le (node l s o) u (leaves-in (node l s o) m))),
+                subst (λ (x : Part). Placed bs at done w v x (ofTree (node l s o))) (sym same) placed,
+              )
+
+          missing : p .ok ≡ false → (t : Tree) → PlainUnder k t → Free n floor done seen (leaves t) → At bs at (treeBits t) → ⊥
+          missing bad t may free stands =
+              let i = only-group l c t (h .small) (free-small few free) (h .groupAt l e) stands in
+              let x : Tree = node l (i .first) (i .others) in
+              let may-x : PlainUnder k x = subst (PlainUnder k) (i .same) may in
+              let free-x : Free n floor done seen (leaves x) = subst (λ (y : Tree). Free n floor done seen (leaves y)) (i .same) free in
+              ⊎-elim
+              (λ (good : part .ok ≡ true).
+              let (f, m, free-f, q) = r .some good in
+              let (s, o, split, placed) = as-group f m q in
+              let small = subst (λ (y : Forest). Small (forestLeaves y)) split (free-small few free-f) in
+              let same : node l s o ≡ t = one-tree (node l s o) t small (free-small few free) (placed .stands) stands in
+              g .none bad good (omega (arith, placed .least, ap least same, free .above (least t) (in-leaves t (least-in t)))))
+              (λ (ill : part .ok ≡ false).
+              r .none ill (more (i .first) (i .others)) (ap suc (i .number), may-x .1 .0, may-x .1 .1) (free-floor 0 free-x (λ u m. omega arith)) (i .children))
+              (decided (part .ok))
+
+-- a tree that stands in no group: the reader that takes it is that of the children of the other kind
+
+module _ (bs : List ℕ) (n floor at done : ℕ) (few : n ≤ 128) (nd : Node) (h : NodeAt bs at nd) (w v : Lists) (p : Part) where
+  any-kind : (k : Kind) → ((t : Tree) → Free n floor done (w .seen) (leaves t) → At bs at (treeBits t) → alternates k t ≡ true)
+      → Found ofTree (PlainUnder k) bs n floor at done w v p → Found ofTree Plain bs n floor at done w v p
+  any-kind k under r = record {
+    some = λ ok. let (t, may, free, placed) = r .some ok in (t, may .1, free, placed);
+    none = λ bad t may free s. r .none bad t (under t free s, may) free s;
+  }
+
+  group-under : (k : Kind) → nd .tag ≡ suc (kindBit (other k)) → (t : Tree) → Free n floor done (w .seen) (leaves t) → At bs at (treeBits t)
+      → alternates k t ≡ true
+  group-under k e t free s =
+      let g = only-group (other k) (nd .value) t (h .small) (free-small few free) (h .groupAt (other k) e) s in
+      ap (alternates k) (g .same) ∙ under-other k (g .first) (g .others)
+
+  pub chain-tree : nd .tag ≡ 1 → Found ofTree (PlainUnder parallel) bs n floor at done w v p → Found ofTree Plain bs n floor at done w v p
+  unfolding kindBit
+  chain-tree e = any-kind parallel (group-under parallel e)
+
+  pub side-tree : (nd .tag ≡ 1 → ⊥) → Found ofTree (PlainUnder series) bs n floor at done w v p → Found ofTree Plain bs n floor at done w v p
+  unfolding kindBit alternates
+  side-tree no-chain = any-kind series λ t free s.
+      ⊎-elim
+      (λ (e : nd .tag ≡ 0). ap (alternates series) (only-leaf (nd .value) t (h .small) (free-small few free) (h .leafAt e) s))
+      (λ rest. ⊎-elim (λ (e : nd .tag ≡ 2). group-under series e t free s) (λ (e : nd .tag ≡ 3). absurd (h .noneAt e t (free-small few free) s)) rest)
+      (tags (h .tags))
+    where
+      tags : nd .tag ≤ 3 → (nd .tag ≡ 0) ⊎ ((nd .tag ≡ 2) ⊎ (nd .tag ≡ 3))
+      tags l =
+          ⊎-elim
+          (λ e. inr (inr e))
+          (λ (h : nd .tag < 3). ⊎-elim (λ (e : suc (nd .tag) ≡ 3). inr (inl (omega arith))) (λ (l′ : suc (nd .tag) < 3). inl (omega arith)) (eq-or-lt-of-le h))
+          (eq-or-lt-of-le l)

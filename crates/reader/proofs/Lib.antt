@@ -1,0 +1,13 @@
+pub mod Positions
+pub mod Windows
+pub mod Filling
+pub mod Inversion
+pub mod Beginnings
+pub mod Strands
+pub mod Marks
+pub mod Child
+pub mod Children
+pub mod Calls
+pub mod Walks
+pub mod Sequences
+pub mod Whole

@@ -1,0 +1,167 @@
+-- A record as a whole: the job count, the tree, and the bits left over.
+use Prim.Native.Nat.{ℕ, zero, suc, _+_, _-_, _*_, _^_, _≤_, _<_}
+use mathlib.Core.Path.{_≡_, refl, sym, ap, ap₂, subst, _∙_}
+use mathlib.Core.List.{List, [], _∷_, _++_, append-assoc, List·Memᴰ, List·Memᴰ·head, List·Memᴰ·tail}
+use mathlib.Core.Bool.{Bool, true, false}
+use mathlib.Core.Option.{Option, none, some}
+use native.Mathlib.Omega.{arith}
+use lib.ListN.{length, getD, drop, replicate, length-append, length-replicate, getD-replicate}
+use lib.Seq.{drop-at}
+use Rattle.poset.specs.Tree.{Tree, leaves, reversed, groups, Spans}
+use Rattle.poset.proofs.Laws.{clash}
+use Rattle.poset.proofs.Shape.{leaves-in}
+use Rattle.poset.proofs.Canonical.{canon, canon-canonical}
+use Rattle.poset.proofs.Meaning.{spans-holds}
+use Rattle.record.specs.Bits.{AllBelow, bits, bitsOf}
+use Rattle.record.specs.Layout.{treeBits, layout, IsRecord}
+use Rattle.record.specs.Decode.{decode, fills}
+use Rattle.record.proofs.Fields.{length-bits}
+use Rattle.record.proofs.Bytes.{Filled, length-bitsOf, filled-length, filled-unique}
+use Rattle.record.proofs.Sizes.{Small, leaves-below, length-leaves, length-spans, spans-small}
+use Rattle.record.proofs.Tests.{fills-zeros, zeros-fill}
+use Rattle.record.proofs.Records.{layout-filled}
+use Rattle.record.proofs.Theorems.{decode-record, decode-none, layout-length}
+use Rattle.reader.specs.Fields.{At, FieldAt}
+use Rattle.reader.specs.Parts.{Lists, Free, Placed, Found, Plain, ofTree}
+use Rattle.reader.specs.Answer.{padded, reading, Reads, walk}
+use Rattle.reader.specs.declared.parts.Part.{Part}
+use Rattle.reader.specs.declared.Reading.{Reading}
+use Rattle.reader.proofs.Positions.{at-of, at-left, at-right, at-join, at-same, bits-injective}
+use Rattle.reader.proofs.Marks.{free-small}
+use Rattle.reader.proofs.Inversion.{one-tree}
+use Rattle.reader.proofs.Sequences.{forward-leaves, walk-reversed, walk-below}
+
+-- a list whose elements are small
+pub all-below : (m : ℕ) (xs : List ℕ) → ((i : ℕ) → getD xs i 0 < m) → AllBelow m xs
+all-below m xs h x (List·Memᴰ·head {x = y} {xs = ys} e) = subst (λ (z : ℕ). z < m) (sym e) (h 0)
+all-below m xs h x (List·Memᴰ·tail {x = y} {xs = ys} i) = all-below m ys (λ j. h (suc j)) x i
+
+-- what the bits of a record are
+record Spelt (bytes : List ℕ) (n : ℕ) (t : Tree) : Type 0 where
+  count-at : At (bitsOf bytes) 0 (bits 7 (n - 1))
+  tree-at : At (bitsOf bytes) 7 (treeBits t)
+  rest : fills (drop (7 + length (treeBits t)) (bitsOf bytes)) ≡ true
+
+record-spelt : (bytes : List ℕ) (n : ℕ) (t : Tree) → IsRecord bytes n t → Spelt bytes n t
+record-spelt bytes n t r =
+    let f = layout-filled n t in
+    let head : List ℕ = bits 7 (n - 1) in
+    let zeros : List ℕ = replicate (f .fill) 0 in
+    let same : bitsOf bytes ≡ (head ++ treeBits t) ++ zeros = sym (ap bitsOf (r .spelt)) ∙ f .same in
+    let both : At (bitsOf bytes) 0 (head ++ treeBits t) = at-of (head ++ treeBits t) zeros (omega arith) same in
+    let size : 0 + length head ≡ 7 = omega (arith, length-bits 7 (n - 1)) in
+    record {
+      count-at = at-left head (treeBits t) both;
+      tree-at = subst (λ (i : ℕ). At (bitsOf bytes) i (treeBits t)) size (at-right head (treeBits t) both);
+      rest =
+          ap fills
+          (ap (drop (7 + length (treeBits t))) same
+          ∙ drop-at (head ++ treeBits t) zeros (7 + length (treeBits t)) (omega (arith, length-append head (treeBits t))))
+          ∙ fills-zeros (f .fill) (f .few);
+    }
+
+-- no record is empty, or too long
+
+pub none-empty : (bytes : List ℕ) → length bytes ≡ 0 → (n : ℕ) (t : Tree) → IsRecord bytes n t → ⊥
+none-empty bytes e n t r = omega (arith, record-spelt bytes n t r .count-at .within, length-bits 7 (n - 1), length-bitsOf bytes)
+
+pub none-long : (bytes : List ℕ) → 272 < length bytes → (n : ℕ) (t : Tree) → IsRecord bytes n t → ⊥
+none-long bytes l n t r = omega (arith, ap length (r .spelt), layout-length n t (r .most) (r .spans) .2)
+
+-- a count, and the tree after it, if one was read
+module _ (bytes : List ℕ) (m : ℕ) (count : FieldAt (bitsOf bytes) 0 7 m) (forward next : List ℕ) (v : Lists) (p : Part)
+    (r : Found ofTree Plain (bitsOf bytes) (m + 1) 0 7 0 (record { seen = replicate 128 0; forward = forward; next = next }) v p) where
+  few : m + 1 ≤ 128
+  few = let small : m < 128 = count .small in omega arith
+
+  module _ (n : ℕ) (t : Tree) (q : IsRecord bytes n t) where
+    spelt : Spelt bytes n t
+    spelt = record-spelt bytes n t q
+
+    same-count : n ≡ m + 1
+    same-count =
+        let same : bits 7 (n - 1) ≡ bits 7 m =
+        at-same (bits 7 (n - 1)) (bits 7 m) (length-bits 7 (n - 1) ∙ sym (length-bits 7 m)) (spelt .count-at) (count .stands) in
+        omega (arith, bits-injective 7 (n - 1) m (omega (arith, q .most)) (count .small) same, q .least)
+
+    free : Free (m + 1) 0 0 (replicate 128 0) (leaves t)
+    free = record {
+      inside = λ u i. omega (arith, same-count, leaves-below n t (q .spans) u i);
+      above = λ u i. omega arith;
+      unseen = λ u i. getD-replicate 128 u 0 0 (omega (arith, q .most, leaves-below n t (q .spans) u i));
+      room = omega (arith, same-count, length-leaves n t (q .spans));
+    }
+
+    -- so what was read is the record's tree
+    read-same : (ok : p .ok ≡ true) → r .some ok .0 ≡ t
+    read-same ok =
+        let (s, _, free-s, placed) = r .some ok in
+        one-tree s t (free-small few free-s) (free-small few free) (placed .stands) (spelt .tree-at)
+
+  pub none-tree : p .ok ≡ false → (n : ℕ) (t : Tree) → IsRecord bytes n t → ⊥
+  none-tree bad n t q = r .none bad t (canon t (q .plain), spans-holds n t (q .spans) .0) (free n t q) (spelt n t q .tree-at)
+
+  pub none-count : p .ok ≡ true → (p .done ≡ m + 1 → ⊥) → (n : ℕ) (t : Tree) → IsRecord bytes n t → ⊥
+  none-count ok fewer n t q =
+      let same : length (leaves (r .some ok .0)) ≡ length (leaves t) = ap (λ (s : Tree). length (leaves s)) (read-same n t q ok) in
+      fewer (omega (arith, r .some ok .3 .number, length-leaves n t (q .spans), same-count n t q))
+
+  pub none-filled : p .ok ≡ true → fills (drop (p .at) (bitsOf bytes)) ≡ false → (n : ℕ) (t : Tree) → IsRecord bytes n t → ⊥
+  none-filled ok bad n t q =
+      let end : p .at ≡ 7 + length (treeBits t) = r .some ok .3 .end ∙ ap (λ (s : Tree). 7 + length (treeBits s)) (read-same n t q ok) in
+      clash (ap (λ (i : ℕ). fills (drop i (bitsOf bytes))) end ∙ spelt n t q .rest) bad
+
+  pub read-whole : AllBelow 256 bytes → (ok : p .ok ≡ true) → p .done ≡ m + 1 → fills (drop (p .at) (bitsOf bytes)) ≡ true
+      → IsRecord bytes (m + 1) (r .some ok .0)
+  read-whole small ok all filled =
+      let (t, plain, free-t, placed) = r .some ok in
+      let rest : List ℕ = drop (p .at) (bitsOf bytes) in
+      let (spare, zeros) = zeros-fill rest filled in
+      let head : List ℕ = bits 7 m in
+      let size : 7 ≡ 0 + length head = omega (arith, length-bits 7 m) in
+      let both : At (bitsOf bytes) 0 (head ++ treeBits t) =
+      at-join head (treeBits t) (count .stands) (subst (λ (i : ℕ). At (bitsOf bytes) i (treeBits t)) size (placed .stands)) in
+      let end : 0 + length (head ++ treeBits t) ≡ p .at = omega (arith, length-append head (treeBits t), placed .end) in
+      let less : m ≡ m + 1 - 1 = omega arith in
+      let as-filled : Filled (bits 7 (m + 1 - 1) ++ treeBits t) bytes = record {
+        fill = length rest;
+        few = spare;
+        same =
+            both .these
+            ∙ ap₂ (λ (a b : List ℕ). (a ++ treeBits t) ++ b) (ap (bits 7) less) (ap (λ (i : ℕ). drop i (bitsOf bytes)) end ∙ zeros);
+        small = small;
+      } in
+      record {
+        least = omega arith;
+        most = few;
+        spans = length-spans (m + 1) t (plain .1) (free-t .inside) (omega (arith, placed .number));
+        plain = canon-canonical t (plain .0);
+        spelt = filled-unique (layout-filled (m + 1) t) as-filled;
+      }
+
+  pub tree-within : p .ok ≡ true → p .at ≤ 8 * length bytes
+  tree-within ok = omega (arith, r .some ok .3 .end, r .some ok .3 .stands .within, length-bitsOf bytes)
+
+  -- the reverse sequence is walked within the lists
+  pub walk-inside : p .ok ≡ true → p .done ≡ m + 1 → (m + 1 ≤ 128) × AllBelow 128 (walk (v .next) (m + 1) (p .first))
+  walk-inside ok all = let (t, _, free-t, placed) = r .some ok in (few, walk-below t few all free-t placed)
+
+  -- what reading gives
+  pub reads-some : AllBelow 256 bytes → forward ≡ replicate 128 0 → p .ok ≡ true → p .done ≡ m + 1 → fills (drop (p .at) (bitsOf bytes)) ≡ true
+      → (reverse : List ℕ) → reverse ≡ padded (walk (v .next) (m + 1) (p .first))
+      → Reads (record { ok = true; count = m + 1; groups = p .groups; forward = v .forward; reverse = reverse }) (reading (decode bytes))
+  reads-some small zeros ok all filled reverse e =
+      let (t, _, free-t, placed) = r .some ok in
+      let x : Reading = record { ok = true; count = m + 1; groups = p .groups; forward = v .forward; reverse = reverse } in
+      let given : Reads x (reading (some (m + 1, t))) = record {
+        ok = refl;
+        count = refl;
+        groups = placed .groups;
+        forward = forward-leaves t few all free-t placed zeros;
+        reverse = e ∙ ap padded (walk-reversed t few all free-t placed);
+      } in
+      subst (λ (o : Option (ℕ × Tree)). Reads x (reading o)) (sym (decode-record bytes (m + 1) t small .1 (read-whole small ok all filled))) given
+
+pub reads-none : (bytes : List ℕ) (x : Reading) → AllBelow 256 bytes → ((n : ℕ) (t : Tree) → IsRecord bytes n t → ⊥) → Reads x (reading none)
+    → Reads x (reading (decode bytes))
+reads-none bytes x small h r = subst (λ (o : Option (ℕ × Tree)). Reads x (reading o)) (sym (decode-none bytes small .1 h)) r

@@ -1,0 +1,33 @@
+-- Bits by position.
+use Prim.Native.Nat.{ℕ, suc, _+_, _≤_, _<_, _^_}
+use mathlib.Core.Path.{_≡_}
+use mathlib.Core.List.{List, _∷_, _++_}
+use lib.ListN.{length, drop}
+use Rattle.poset.specs.Tree.{Kind, Tree, leaf, leaves}
+use Rattle.record.specs.Bits.{bits}
+use Rattle.record.specs.Layout.{kindBit, treeBits}
+use Rattle.record.proofs.Sizes.{Small}
+use Rattle.reader.specs.declared.nodes.Node.{Node}
+
+-- the list xs stands in bs from the position `at` on
+pub record At (bs : List ℕ) (at : ℕ) (xs : List ℕ) : Type 0 where
+  pub within : at + length xs ≤ length bs
+  pub these : drop at bs ≡ xs ++ drop (at + length xs) bs
+
+-- x is the number in the k bits there
+pub record FieldAt (bs : List ℕ) (at k x : ℕ) : Type 0 where
+  pub stands : At bs at (bits k x)
+  pub small : x < 2 ^ k
+
+-- a group's bits ahead of its children's
+abbrev pub header : Kind → ℕ → List ℕ
+header k c = 1 ∷ kindBit k ∷ bits 7 c
+
+-- the node is what a tree there would begin with
+pub record NodeAt (bs : List ℕ) (at : ℕ) (n : Node) : Type 0 where
+  pub leafAt : n .tag ≡ 0 → At bs at (treeBits (leaf (n .value)))
+  pub groupAt : (k : Kind) → n .tag ≡ suc (kindBit k) → At bs at (header k (n .value))
+  pub noneAt : n .tag ≡ 3 → (t : Tree) → Small (leaves t) → At bs at (treeBits t) → ⊥
+  pub several : (k : Kind) → n .tag ≡ suc (kindBit k) → 0 < n .value
+  pub tags : n .tag ≤ 3
+  pub small : n .value < 128

@@ -1,0 +1,4 @@
+-- The record's reader: what its functions owe.
+pub mod Fields
+pub mod Parts
+pub mod Answer

@@ -1,0 +1,87 @@
+// A record read back: its job count, groups and sequences, or that the bytes are no record.
+mod groups;
+mod nodes;
+mod parts;
+
+use groups::tree;
+use nodes::field;
+use nodes::filled;
+use nodes::wide;
+ghost use mathlib.Core.Path.{_≡_};
+ghost use Prim.Native.Nat.{_≤_, _<_};
+ghost use mathlib.Core.List.{[]};
+ghost use mathlib.Core.Bool.{true, false};
+ghost use mathlib.Core.Option.{none};
+ghost use Rattle.record.specs.Bits.{AllBelow};
+ghost use Rattle.record.specs.Decode.{decode};
+ghost use Rattle.reader.specs.Answer.{padded, reading, Reads, walk};
+
+// ok: whether the bytes are a record. Then the job count, the number of groups, and the sequences, whose entries from the
+// count on are 0; all 0 otherwise.
+pub struct Reading {
+    pub ok: bool,
+    pub count: usize,
+    pub groups: usize,
+    pub forward: [u8; 128],
+    pub reverse: [u8; 128],
+}
+
+fn no_record() -> Reading
+    ensures { λ r. ⌜ Reads r (reading none) ⌝ }
+{
+    Reading {
+        ok: false,
+        count: 0,
+        groups: 0,
+        forward: [0; 128],
+        reverse: [0; 128],
+    }
+}
+
+// The `count` jobs from `first` on, each followed by its next.
+fn in_turn(next: &[u8; 128], first: usize, count: usize) -> [u8; 128]
+    requires { ⌜ (count ≤ 128) × AllBelow 128 (walk (now next) count first) ⌝ }
+    ensures { λ r. ⌜ r ≡ padded (walk (now (next .entry)) count first) ⌝ }
+{
+    let mut jobs = [0u8; 128];
+    let mut job = first;
+    for i in 0..count {
+        jobs[i] = job as u8;
+        job = wide(next[job]);
+    }
+    jobs
+}
+
+// Reads a record: `bytes` is any slice.
+pub fn read_record(bytes: &[u8]) -> Reading
+    ensures { λ r. ⌜ Reads r (reading (decode (now (bytes .entry)))) ⌝ }
+{
+    if bytes.len() == 0 {
+        return no_record();
+    }
+    if bytes.len() > 272 {
+        return no_record();
+    }
+    let count = field(bytes, 0, 7) + 1;
+    let mut seen = [0u8; 128];
+    let mut forward = [0u8; 128];
+    let mut next = [0u8; 128];
+    let part = tree(bytes, count, &mut seen, &mut forward, &mut next);
+    if !part.ok {
+        return no_record();
+    }
+    if part.done != count {
+        return no_record();
+    }
+    if !filled(bytes, part.at) {
+        return no_record();
+    }
+    let reverse = in_turn(&next, part.first, count);
+    Reading {
+        ok: true,
+        count: count,
+        groups: part.groups,
+        forward: forward,
+        reverse: reverse,
+    }
+}

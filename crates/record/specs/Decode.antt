@@ -1,0 +1,74 @@
+-- A record read back. A reader gives what it read and the bits left.
+use Prim.Native.Nat.{ℕ, zero, suc, _+_, _*_, _^_}
+use mathlib.Core.List.{List, [], _∷_}
+use mathlib.Core.Bool.{Bool, true, _&&_}
+use mathlib.Core.Option.{Option, none, some, bind as _>>=_}
+use lib.Dec.{eqb, ltb}
+use lib.ListN.{length}
+use Rattle.poset.specs.Lists.{count, below, onlyIf}
+use Rattle.poset.specs.Tree.{Kind, series, parallel, Tree, leaf, node, Forest, last, more, leaves, canonical}
+use Rattle.record.specs.Bits.{bitsOf}
+
+abbrev pub Reader : Type 0 → Type 0
+Reader A = List ℕ → Option (A × List ℕ)
+
+-- k bits as a number
+unfoldable pub readBits : ℕ → Reader ℕ
+readBits zero bs = some (0, bs)
+readBits (suc k) [] = none
+readBits (suc k) (b ∷ bs) = do
+  (x, rest) ← readBits k bs
+  some (b * 2 ^ k + x, rest)
+
+unfoldable pub kindOf : ℕ → Kind
+kindOf zero = series
+kindOf (suc b) = parallel
+
+-- a tree and c more, each by the reader given
+unfoldable pub readForest : Reader Tree → ℕ → Reader Forest
+readForest read zero bs = do
+  (t, rest) ← read bs
+  some (last t, rest)
+readForest read (suc c) bs = do
+  (t, rest) ← read bs
+  (f, rest) ← readForest read c rest
+  some (more t f, rest)
+
+-- a group has two children or more
+unfoldable pub grouped : Kind → Forest → Option Tree
+grouped k (last t) = none
+grouped k (more t f) = some (node k t f)
+
+-- a tree of fewer than d groups one in another
+unfoldable pub readTree : ℕ → Reader Tree
+readTree zero bs = none
+readTree (suc d) [] = none
+readTree (suc d) (zero ∷ bs) = do
+  (job, rest) ← readBits 7 bs
+  some (leaf job, rest)
+readTree (suc d) (suc b ∷ bs) = do
+  (kind, rest) ← readBits 1 bs
+  (children-1, rest) ← readBits 7 rest
+  (f, rest) ← readForest (readTree d) children-1 rest
+  t ← grouped (kindOf kind) f
+  some (t, rest)
+
+unfoldable pub all : (ℕ → Bool) → List ℕ → Bool
+all p [] = true
+all p (x ∷ xs) = p x && all p xs
+
+-- the bits left fill the last byte and nothing follows
+unfoldable pub fills : List ℕ → Bool
+fills rest = ltb (length rest) 8 && all (eqb 0) rest
+
+-- every leaf is a job below n, and each of these is on one leaf
+unfoldable pub spanning : ℕ → Tree → Bool
+spanning n t = all (λ j. ltb j n) (leaves t) && all (λ j. eqb (count j (leaves t)) 1) (below n)
+
+-- the job count and the tree of a record; the bits left bound how deep groups stand one in another
+unfoldable pub decode : List ℕ → Option (ℕ × Tree)
+decode bytes = do
+  (jobs-1, rest) ← readBits 7 (bitsOf bytes)
+  (t, rest) ← readTree (length rest) rest
+  let n = suc jobs-1
+  onlyIf (fills rest && (canonical t && spanning n t)) (n, t)

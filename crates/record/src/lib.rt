@@ -1,0 +1,1 @@
+// Definitions and theorems alone, so far: see specs/ and proofs/Theorems.antt.
