@@ -1,0 +1,3 @@
+-- The line form of a sheet: what a reader must believe.
+pub mod Text
+pub mod Scan

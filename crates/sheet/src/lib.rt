@@ -1,0 +1,1 @@
+// The line form of a sheet.
