@@ -1,5 +1,5 @@
 -- What the readers' parts come to in a scan.
-use Prim.Native.Nat.{ℕ, zero, suc, zero-le, suc-le-suc, _+_, _-_, _*_, _≤_, _<_}
+use Prim.Native.Nat.{ℕ, suc, suc-le-suc, _+_, _-_, _*_, _%_, _^_, _≤_, _<_}
 use mathlib.Core.Path.{_≡_, refl, sym, ap, ap₂, subst, _∙_}
 use mathlib.Core.List.{List, [], _∷_, _++_}
 use mathlib.Core.Bool.{Bool, true, false, _&&_}
@@ -16,7 +16,7 @@ use Rattle.poset.specs.Order.{Arc}
 use Rattle.poset.proofs.Laws.{decided, clash, and-left, and-right, and-intro, false-unless, eqb-true, ltb-true}
 use Rattle.sheet.specs.Text.{lineEnd, space}
 use Rattle.sheet.specs.Scan.{Field, countField, firstField, secondField, Read, broken, digitFits, withDigit, ending, endsNumber, ended, stopped, scanFrom}
-use Rattle.sheet.specs.Reading.{digitAt, number, numeralAt, isAt, endAt, ReadsNumber, ReadsArc}
+use Rattle.sheet.specs.Reading.{DigitAt, number, numeralAt, isAt, endAt, ReadsNumber, ReadsArc}
 use Rattle.sheet.specs.declared.number.Numeral.{Numeral}
 use Rattle.sheet.specs.declared.line.End.{End}
 use Rattle.sheet.specs.declared.line.End.the-variants as end
@@ -27,42 +27,17 @@ use Rattle.sheet.proofs.Scanning.{scan-digit, scan-fault, scan-ending, 
 
 -- A digit.
 
-module _ (s : List ℕ) (at : ℕ) where
-  pub digit-yes : 48 ≤ getD s at 0 → getD s at 0 ≤ 57 → digitAt s at ≡ getD s at 0 - 48
-  unfolding digitAt
-  digit-yes p q = rw (and-intro _ _ (le-leb 48 _ p) (le-leb _ 57 q), digitAt)
+pub digit-past : (s : List ℕ) (at : ℕ) → length s ≤ at → DigitAt s at 10
+digit-past s at h = record {
+  there = λ k. absurd (omega arith);
+  none = λ k. inl (omega (arith, List·getD-eq-default s 0 h));
+}
 
-  pub digit-not : (getD s at 0 < 48) ⊎ (57 < getD s at 0) → digitAt s at ≡ 10
-  unfolding digitAt
-  digit-not h = rw (false-unless _ (λ e. ⊎-elim (λ k. clash (and-left _ _ e) (lt-leb 48 _ k)) (λ k. clash (and-right (leb 48 (getD s at 0)) _ e) (lt-leb _ 57 k)) h), digitAt)
-
-  pub digit-past : length s ≤ at → digitAt s at ≡ 10
-  digit-past h = digit-not (inl (omega (arith, List·getD-eq-default s 0 h)))
-
-  digit-none : (leb 48 (getD s at 0) && leb (getD s at 0) 57) ≡ false → digitAt s at ≡ 10
-  unfolding digitAt
-  digit-none e = rw (e, digitAt)
-
-  -- a digit there
-  pub record DigitThere : Type 0 where
-    pub within : at < length s
-    pub byte : getD s at 0 ≡ 48 + digitAt s at
-
-  pub digit-there : digitAt s at ≤ 9 → DigitThere
-  digit-there h =
-      ⊎-elim
-      (λ (e : (leb 48 (getD s at 0) && leb (getD s at 0) 57) ≡ true).
-      let p : 48 ≤ getD s at 0 = leb-true 48 _ (and-left _ _ e) in
-      let q : getD s at 0 ≤ 57 = leb-true _ 57 (and-right (leb 48 (getD s at 0)) _ e) in
-      record {
-        within = elim (decLt at (length s)) [ yes l ↦ l | no l ↦ absurd (omega (arith, List·getD-eq-default s 0 {n = at} (omega arith))) ];
-        byte = omega (arith, digit-yes p q);
-      })
-      (λ (e : (leb 48 (getD s at 0) && leb (getD s at 0) 57) ≡ false). absurd (omega (arith, digit-none e)))
-      (decided (leb 48 (getD s at 0) && leb (getD s at 0) 57))
-
-pub digit-within : (s : List ℕ) (at a : ℕ) → a ≡ digitAt s at → a ≤ 9 → at < length s
-digit-within s at a e h = digit-there s at (omega arith) .within
+pub digit-byte : (s : List ℕ) (at r : ℕ) → at < length s → getD s at 0 < 256 → (r + 48) % 2 ^ 32 ≡ getD s at 0 → r < 2 ^ 32 → DigitAt s at r
+digit-byte s at r h b e f = record {
+  there = λ k. (h, omega arith);
+  none = λ k. elim (decLt (getD s at 0) 48) [ yes l ↦ inl l | no l ↦ inr (omega arith) ];
+}
 
 -- A number.
 
@@ -141,16 +116,16 @@ module _ (s : List ℕ) (at : ℕ) where
 module _ (s : List ℕ) where
   -- one digit more, of value y
   number-more
-      : (d v at next y w : ℕ) → next ≡ at + 1 → y ≡ digitAt s at → y ≤ 9 → w ≡ v * 10 + y → (d ≡ 0) ⊎ ((d < 3) × (v ≡ 0 → ⊥))
+      : (d v at next y w : ℕ) → next ≡ at + 1 → DigitAt s at y → y ≤ 9 → w ≡ v * 10 + y → (d ≡ 0) ⊎ ((d < 3) × (v ≡ 0 → ⊥))
       → (k x : ℕ) → number (d + 1) w (drop next s) ≡ (k, x) → number d v (drop at s) ≡ (suc k, x)
   unfolding withDigit
-  number-more d v at next y w en ey h ew g k x more =
-      let t : DigitThere s at = digit-there s at (omega arith) in
+  number-more d v at next y w en dy h ew g k x more =
+      let t = dy .there h in
       let b : ℕ = getD s at 0 in
       let e₁ : suc at ≡ next = omega arith in
-      let e₂ : v * 10 + (b - 48) ≡ w = omega arith in
-      rw (drop-cons s at 0 (t .within))
-      (number-digit d v b (drop (suc at) s) (digit-fits d v b (record { low = omega arith; high = omega arith; goes = g }))
+      let e₂ : v * 10 + (b - 48) ≡ w = omega (arith, t .1) in
+      rw (drop-cons s at 0 (t .0))
+      (number-digit d v b (drop (suc at) s) (digit-fits d v b (record { low = omega (arith, t .1); high = omega (arith, t .1); goes = g }))
       ∙ ap (λ (n : ℕ × ℕ). (suc (n .0), n .1)) (ap₂ (λ (y z : ℕ). number (d + 1) y (drop z s)) e₂ e₁ ∙ more))
 
   number-stop : (d v at : ℕ) → digitFits d v (getD s at 0) ≡ false → number d v (drop at s) ≡ (0, v)
@@ -161,52 +136,51 @@ module _ (s : List ℕ) where
         | no h ↦ rw (drop-of-length-le s {i = at} (omega arith))
       ]
 
-  number-last : (d v at y : ℕ) → y ≡ digitAt s at → 9 < y → number d v (drop at s) ≡ (0, v)
-  number-last d v at y e h =
-      number-stop d v at (false-unless _ (λ g. let t = digit-read d v (getD s at 0) g in omega (arith, digit-yes s at (t .low) (t .high))))
+  number-last : (d v at y : ℕ) → DigitAt s at y → 9 < y → number d v (drop at s) ≡ (0, v)
+  number-last d v at y dy h =
+      number-stop d v at
+      (false-unless _ (λ g. let t = digit-read d v (getD s at 0) g in ⊎-elim (λ k. omega (arith, t .low)) (λ k. omega (arith, t .high)) (dy .none h)))
 
-  module _ (at a : ℕ) (ea : a ≡ digitAt s at) where
+  module _ (at a : ℕ) (da : DigitAt s at a) where
     numeral-is : (k v next : ℕ) → next ≡ at + k → number 0 0 (drop at s) ≡ (k, v) → record { value = v; next = next } ≡ numeralAt s at
     unfolding numeralAt
     numeral-is k v next e h =
         sym (ap (λ (n : ℕ × ℕ). record { value = n .1; next = at + n .0 }) h ∙ ap (λ (x : ℕ). record { value = v; next = x }) (sym e))
 
     pub numeral-none : 9 < a → record { value = 0; next = at } ≡ numeralAt s at
-    numeral-none h = numeral-is 0 0 at (omega arith) (number-last 0 0 at a ea h)
+    numeral-none h = numeral-is 0 0 at (omega arith) (number-last 0 0 at a da h)
 
-    pub numeral-zero : a ≡ 0 → record { value = 0; next = at + 1 } ≡ numeralAt s at
-    numeral-zero z =
-        numeral-is 1 0 (at + 1) refl
-        (number-more 0 0 at (at + 1) a 0 refl ea (omega arith) (omega arith) (inl refl) 0 0 (number-stop 1 0 (at + 1) (zero-stops _)))
-      where
-        zero-stops : (b : ℕ) → digitFits 1 0 b ≡ false
-        zero-stops b =
-            false-unless _
-            (λ g. ⊎-elim (λ (e : _≡_ {A = ℕ} 1 0). omega arith) (λ (e : (1 < 3) × (_≡_ {A = ℕ} 0 0 → ⊥)). e .1 refl) (digit-read 1 0 b g .goes))
-
-    module _ (b : ℕ) (eb : b ≡ digitAt s (at + 1)) (ha : a ≤ 9) (za : a ≡ 0 → ⊥) where
+    module _ (b : ℕ) (db : DigitAt s (at + 1) b) (ha : a ≤ 9) where
       first-digit : (k x : ℕ) → number 1 a (drop (at + 1) s) ≡ (k, x) → number 0 0 (drop at s) ≡ (suc k, x)
-      first-digit = number-more 0 0 at (at + 1) a a refl ea ha (omega arith) (inl refl)
+      first-digit = number-more 0 0 at (at + 1) a a refl da ha (omega arith) (inl refl)
 
-      pub numeral-one : 9 < b → record { value = a; next = at + 1 } ≡ numeralAt s at
-      numeral-one h = numeral-is 1 a (at + 1) refl (first-digit 0 a (number-last 1 a (at + 1) b eb h))
+      pub numeral-one : (9 < b) ⊎ (a ≡ 0) → record { value = a; next = at + 1 } ≡ numeralAt s at
+      numeral-one h =
+          numeral-is 1 a (at + 1) refl
+          (first-digit 0 a
+          (⊎-elim (λ k. number-last 1 a (at + 1) b db k) (λ z. number-stop 1 a (at + 1) (zero-stops z (getD s (at + 1) 0))) h))
+        where
+          zero-stops : a ≡ 0 → (b : ℕ) → digitFits 1 a b ≡ false
+          zero-stops z b =
+              false-unless _
+              (λ g. ⊎-elim (λ (e : _≡_ {A = ℕ} 1 0). omega arith) (λ (e : (1 < 3) × (a ≡ 0 → ⊥)). e .1 z) (digit-read 1 a b g .goes))
 
-      module _ (c : ℕ) (ec : c ≡ digitAt s (at + 2)) (hb : b ≤ 9) where
+      module _ (c : ℕ) (dc : DigitAt s (at + 2) c) (hb : b ≤ 9) (za : a ≡ 0 → ⊥) where
         second-digit : (k x : ℕ) → number 2 (a * 10 + b) (drop (at + 2) s) ≡ (k, x) → number 0 0 (drop at s) ≡ (suc (suc k), x)
         second-digit k x e =
             first-digit (suc k) x
-            (number-more 1 a (at + 1) (at + 2) b (a * 10 + b) (omega arith) eb hb refl (inr (omega arith, za)) k x e)
+            (number-more 1 a (at + 1) (at + 2) b (a * 10 + b) (omega arith) db hb refl (inr (omega arith, za)) k x e)
 
         pub numeral-two : 9 < c → record { value = a * 10 + b; next = at + 2 } ≡ numeralAt s at
-        numeral-two h = numeral-is 2 (a * 10 + b) (at + 2) refl (second-digit 0 (a * 10 + b) (number-last 2 (a * 10 + b) (at + 2) c ec h))
+        numeral-two h = numeral-is 2 (a * 10 + b) (at + 2) refl (second-digit 0 (a * 10 + b) (number-last 2 (a * 10 + b) (at + 2) c dc h))
 
         pub numeral-three : c ≤ 9 → record { value = (a * 10 + b) * 10 + c; next = at + 3 } ≡ numeralAt s at
         numeral-three h =
             let x : ℕ = (a * 10 + b) * 10 + c in
             numeral-is 3 x (at + 3) refl
             (second-digit 1 x
-            (number-more 2 (a * 10 + b) (at + 2) (at + 3) c x (omega arith) ec h refl (inr (omega arith, omega arith)) 0 x
-            (number-stop 3 x (at + 3) (three-stop x _))))
+            (number-more 2 (a * 10 + b) (at + 2) (at + 3) c x (omega arith) dc h refl (inr (omega arith, omega arith)) 0 x
+            (number-stop 3 x (at + 3) (three-stop x (getD s (at + 3) 0)))))
           where
             three-stop : (v b : ℕ) → digitFits 3 v b ≡ false
             three-stop v b =

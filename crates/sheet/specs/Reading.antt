@@ -1,9 +1,10 @@
 -- What the readers of a sheet's parts give.
-use Prim.Native.Nat.{ℕ, suc, _+_, _-_, _≤_, _<_}
+use Prim.Native.Nat.{ℕ, suc, _+_, _≤_, _<_}
 use mathlib.Core.Path.{_≡_}
 use mathlib.Core.List.{List, [], _∷_, _++_}
 use mathlib.Core.Bool.{Bool, true, false, _&&_}
-use lib.Dec.{leb, ltb, eqb}
+use mathlib.Core.Logic.{_⊎_}
+use lib.Dec.{ltb, eqb}
 use lib.ListN.{length, getD, drop}
 use Rattle.poset.specs.Order.{Arc}
 use Rattle.sheet.specs.Text.{lineEnd}
@@ -16,9 +17,10 @@ use Rattle.sheet.specs.declared.line.Part.the-variants as part
 use Rattle.sheet.specs.declared.line.Line.{Line}
 use Rattle.sheet.specs.declared.line.Line.the-variants as line
 
--- the value of the digit at a place, or 10 where there is none
-unfoldable pub digitAt : List ℕ → ℕ → ℕ
-digitAt s at = let b = getD s at 0 in elim (leb 48 b && leb b 57) [ true ↦ b - 48 | false ↦ 10 ]
+-- the value of the digit at a place, or a number above 9 where there is none
+pub record DigitAt (s : List ℕ) (at r : ℕ) : Type 0 where
+  pub there : r ≤ 9 → (at < length s) × (getD s at 0 ≡ 48 + r)
+  pub none : 9 < r → (getD s at 0 < 48) ⊎ (57 < getD s at 0)
 
 -- the digits at the head of bytes that go on with a number of so many digits and this value: how many, and the value with them
 unfoldable pub number : ℕ → ℕ → List ℕ → ℕ × ℕ

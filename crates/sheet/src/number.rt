@@ -1,7 +1,7 @@
 // A number of one to three digits with no leading zero.
 
 ghost use mathlib.Core.Path.{_≡_};
-ghost use Rattle.sheet.specs.Reading.{digitAt, numeralAt};
+ghost use Rattle.sheet.specs.Reading.{DigitAt, numeralAt};
 
 // The value of the digits read, and the place after them: where they were to begin, if there are none.
 pub struct Numeral {
@@ -9,24 +9,17 @@ pub struct Numeral {
     pub next: usize,
 }
 
-// The value of the digit at `at`, or 10 where there is none.
+// The value of the digit at `at`, or a number above 9 where there is none.
 fn digit(s: &[u8], at: usize) -> u32
-    ensures { λ r. ⌜ r ≡ digitAt (now (s .entry)) at ⌝ }
+    ensures { λ r. ⌜ DigitAt (now (s .entry)) at r ⌝ }
 {
     if s.len() <= at {
         return 10;
     }
-    let b = s[at] as u32;
-    if b < 48 {
-        return 10;
-    }
-    if 57 < b {
-        return 10;
-    }
-    b - 48
+    std::num::wrapping_sub_u32(s[at] as u32, 48)
 }
 
-// The digits at `at` that make one number.
+// The digits at `at` that make one number. A zero stands alone.
 pub fn number(s: &[u8], at: usize) -> Numeral
     ensures { λ r. ⌜ r ≡ numeralAt (now (s .entry)) at ⌝ }
 {
@@ -34,14 +27,8 @@ pub fn number(s: &[u8], at: usize) -> Numeral
     if 9 < a {
         return Numeral { value: 0, next: at };
     }
-    if a == 0 {
-        return Numeral {
-            value: 0,
-            next: at + 1,
-        };
-    }
     let b = digit(s, at + 1);
-    if 9 < b {
+    if 9 < b || a == 0 {
         return Numeral {
             value: a as u16,
             next: at + 1,

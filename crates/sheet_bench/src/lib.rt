@@ -4,7 +4,6 @@ ghost use mathlib.Core.Path.{_≡_};
 ghost use Rattle.sheet.specs.Scan.{scan};
 ghost use Rattle.sheet.specs.Listing.{resultOf};
 ghost use Rattle.sheet_bench.specs.Packed.{packed};
-
 use sheet::SheetRead;
 
 // Reads a sheet: 1, the count and how many arcs there are as one number, or the place of the fault.
