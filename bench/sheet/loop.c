@@ -2,7 +2,7 @@
 #include <stddef.h>
 #include <stdint.h>
 
-// The result as one number: 0 and the place of a fault, or 1, the count and how many arcs there are.
+// How many arcs there are plus 2^20 times one more than the count, or the place of the fault.
 uint64_t c_read(const uint8_t *d, size_t len, uint16_t *list, size_t room) {
 #define DIGIT(e) (at < len && (e = d[at] - '0') < 10)
 #define NUMBER(x) do { unsigned e; if (!DIGIT(e)) goto bad; at++; x = e; \
@@ -20,7 +20,7 @@ uint64_t c_read(const uint8_t *d, size_t len, uint16_t *list, size_t room) {
         if (m < room / 2) { list[2 * m] = x; list[2 * m + 1] = y; }
         m++;
     }
-    return 1 | (uint64_t)n << 1 | (uint64_t)m << 11;
+    return m + ((uint64_t)(1 + n) << 20);
 bad:
-    return (uint64_t)at << 1;
+    return at;
 }

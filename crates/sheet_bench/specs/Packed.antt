@@ -4,5 +4,5 @@ use Rattle.sheet.specs.declared.SheetRead.{SheetRead}
 use Rattle.sheet.specs.declared.SheetRead.the-variants.{Sheet, Broken}
 
 unfoldable pub packed : SheetRead → ℕ
-packed (Sheet count arcs) = 1 + 2 * count + 2048 * (arcs % 1048576)
-packed (Broken place) = 2 * (place % 1048576)
+packed (Sheet count arcs) = arcs % 1048576 + 1048576 * (1 + count)
+packed (Broken place) = place % 1048576

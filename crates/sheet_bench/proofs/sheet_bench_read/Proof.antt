@@ -14,23 +14,17 @@ enum-known-read c = search needs
 cast-result : tie.Need-cast-result
 cast-result c = search needs
 
-mul-result : tie.Need-mul-result
-mul-result c = search needs
-
 add-result : tie.Need-add-result
 add-result c = search needs
 
-mul-result-2 : tie.Need-mul-result-2
-mul-result-2 c = search needs
+mul-result : tie.Need-mul-result
+mul-result c = search needs
 
 add-result-2 : tie.Need-add-result-2
 add-result-2 c = search needs
 
 enum-known-read-2 : tie.Need-enum-known-read-2
 enum-known-read-2 c = search needs
-
-mul-result-3 : tie.Need-mul-result-3
-mul-result-3 c = search needs
 
 same-length : tie.Need-same-length
 same-length c = search needs
@@ -53,12 +47,10 @@ sheet-bench-read-spec =
     read-sheet-requires
     enum-known-read
     cast-result
-    mul-result
     add-result
-    mul-result-2
+    mul-result
     add-result-2
     enum-known-read-2
-    mul-result-3
     same-length
     returns
     same-length-2
