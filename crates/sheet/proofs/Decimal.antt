@@ -2,12 +2,12 @@
 use Prim.Native.Nat.{ℕ, zero, suc, _+_, _-_, _*_, _/_, _%_, _≤_, _<_}
 use mathlib.Core.Path.{_≡_, refl, sym, ap, ap₂, _∙_}
 use mathlib.Core.List.{List, [], _∷_, _++_}
-use mathlib.Core.Bool.{Bool, true, false, _&&_, _||_, not}
+use mathlib.Core.Bool.{true}
 use mathlib.Core.Logic.{_⊎_, inl, inr, ⊎-elim}
 use native.Mathlib.Omega.{arith}
 use lib.Dec.{leb, ltb, eqb}
-use borrow.Author.Tests.{lt-ltb, le-ltb, le-leb, lt-leb, leb-true, ltb-true, eqb-false, ne-eqb, eq-eqb}
-use Rattle.poset.proofs.Laws.{decided, clash, and-left, and-right, and-intro, or-cases, or-left, or-right, not-true, not-false, eqb-true}
+use borrow.Author.Tests.{lt-ltb, le-ltb, le-leb, leb-true, ltb-true, eqb-false, ne-eqb, eq-eqb}
+use Rattle.poset.proofs.Laws.{and-left, and-right, and-intro, or-cases, or-left, or-right, not-true, not-false, eqb-true}
 use Rattle.sheet.specs.Text.{decimal}
 use Rattle.sheet.specs.Scan.{digitFits, withDigit}
 
@@ -102,7 +102,10 @@ hand-digit b (one {v} h) g = ⊎-elim (λ (e : _≡_ {A = ℕ} 1 0). absurd (ome
         let e₂ : 48 + w % 10 ≡ b = omega arith in
         record {
           hand = two {v = w} (omega arith) (omega arith);
-          written = decimal-two w (omega arith) (omega arith) ∙ ap₂ (λ (x y : ℕ). x ∷ y ∷ []) e₁ e₂ ∙ ap (λ (l : List ℕ). l ++ (b ∷ [])) (sym (decimal-one v h));
+          written =
+              decimal-two w (omega arith) (omega arith)
+              ∙ ap₂ (λ (x y : ℕ). x ∷ y ∷ []) e₁ e₂
+              ∙ ap (λ (l : List ℕ). l ++ (b ∷ [])) (sym (decimal-one v h));
         }
 hand-digit b (two {v} p q) g =
     let w : ℕ = v * 10 + (b - 48) in

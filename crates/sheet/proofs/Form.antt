@@ -1,21 +1,22 @@
 -- A scan gives a count and arcs exactly on their text, and else the place of the fault.
-use Prim.Native.Nat.{ℕ, zero, suc, suc-le-suc, _+_, _-_, _*_, _/_, _%_, _≤_, _<_}
+use Prim.Native.Nat.{ℕ, zero, suc, suc-le-suc, _+_, _-_, _*_, _/_, _%_, _<_}
 use mathlib.Core.Path.{_≡_, refl, sym, ap, ap₂, subst, _∙_}
-use mathlib.Core.List.{List, [], _∷_, _++_, append-assoc, append-nil, List·Memᴰ, List·Memᴰ·head, List·Memᴰ·tail, List·Memᴰ·append-cases, List·Memᴰ·not-nil, List·Memᴰ·eq-of-singleton}
-use mathlib.Core.Bool.{Bool, true, false}
+use mathlib.Core.List.{List, [], _∷_, _++_, append-assoc, append-nil}
+use mathlib.Core.List.{List·Memᴰ·head, List·Memᴰ·tail, List·Memᴰ·append-cases, List·Memᴰ·not-nil, List·Memᴰ·eq-of-singleton}
+use mathlib.Core.Bool.{true, false}
 use mathlib.Core.Logic.{_⊎_, inl, inr, ⊎-elim, _↔_}
 use native.Mathlib.Omega.{arith}
-use native.Mathlib.Numerals.{add-one}
 use native.Mathlib.Decide.{decLt}
 use lib.Dec.{eqb}
 use lib.ListN.{length, take}
-use borrow.Author.Tests.{ne-eqb, eq-eqb}
 use Rattle.poset.specs.Order.{Arc, Within}
 use Rattle.poset.proofs.Laws.{decided, eqb-true}
 use Rattle.sheet.specs.Text.{lineEnd, space, decimal, lines, text, LineForm, Continues}
-use Rattle.sheet.specs.Scan.{Field, countField, firstField, secondField, Read, sheet, broken, digitFits, withDigit, ending, endsNumber, ended, stopped, scanFrom, scan}
-use Rattle.sheet.proofs.Decimal.{decimal-one, decimal-two, decimal-three, Hand, none, one, two, three, inHand, Digit, digit-read, digit-fits, hand-digit, Taken, hand-none, hand-some, hand-small}
-use Rattle.sheet.proofs.Scanning.{scan-digit, scan-fault, scan-ending, Ends, byte-cases}
+use Rattle.sheet.specs.Scan.{Field, countField, firstField, secondField, Read, sheet, broken, digitFits, withDigit}
+use Rattle.sheet.specs.Scan.{ending, endsNumber, ended, stopped, scanFrom, scan}
+use Rattle.sheet.proofs.Decimal.{decimal-one, decimal-two, decimal-three, digit-read, digit-fits}
+use Rattle.sheet.proofs.Decimal.{Hand, none, inHand, hand-digit, Taken, hand-none, hand-some, hand-small}
+use Rattle.sheet.proofs.Scanning.{scan-digit, scan-fault, scan-ending, Ends, byte-cases, apart}
 
 -- From a scan to the text.
 
@@ -50,7 +51,8 @@ small-ended : (f : Field) (v : ℕ) → SmallAhead f → v < 1000 → SmallAhead
 unfolding ended
 small-ended countField v s h = (h, λ a m. absurd (List·Memᴰ·not-nil m))
 small-ended (firstField n arcs) v s h = (s .0, s .1, h)
-small-ended (secondField n arcs u) v s h = (s .0, λ a m. ⊎-elim (λ k. s .1 a k) (λ k. last a (List·Memᴰ·eq-of-singleton k)) (List·Memᴰ·append-cases arcs m))
+small-ended (secondField n arcs u) v s h =
+    (s .0, λ a m. ⊎-elim (s .1 a) (λ k. last a (List·Memᴰ·eq-of-singleton k)) (List·Memᴰ·append-cases arcs m))
   where
     last : (a : Arc) → a ≡ (u, v) → (a .0 < 1000) × (a .1 < 1000)
     last a e = (omega (arith, ap (λ (x : Arc). x .0) e, s .2), omega (arith, ap (λ (x : Arc). x .1) e, h))
@@ -67,11 +69,11 @@ module _ (n : ℕ) (arcs : List Arc) (d at : ℕ) where
 module _ (n : ℕ) (arcs : List Arc) where
   stopped-form : (f : Field) (d v at : ℕ) → SmallAhead f → stopped f d at ≡ sheet n arcs → LineForm (ahead f ++ inHand d v ++ []) n arcs
   unfolding stopped ahead
-  stopped-form countField d v at s e = let z : _≡_ {A = ℕ} 0 1 = cc in absurd (omega arith)
+  stopped-form countField d v at s e = absurd (apart e refl)
   stopped-form (firstField n′ arcs′) d v at s e =
       ⊎-elim
       (λ (t : eqb d 0 ≡ true). whole (eqb-true d 0 t) (sym (stopped-yes n′ arcs′ d at t) ∙ e))
-      (λ (t : eqb d 0 ≡ false). let q = sym (stopped-not n′ arcs′ d at t) ∙ e in let z : _≡_ {A = ℕ} 0 1 = cc in absurd (omega arith))
+      (λ (t : eqb d 0 ≡ false). absurd (apart e (stopped-not n′ arcs′ d at t)))
       (decided (eqb d 0))
     where
       whole : d ≡ 0 → sheet n′ arcs′ ≡ sheet n arcs → LineForm (text n′ arcs′ ++ inHand d v ++ []) n arcs
@@ -83,7 +85,7 @@ module _ (n : ℕ) (arcs : List Arc) where
             small = subst (Within 1000) p₂ (s .1);
             written = rw (hand-none d v z) (simp append-nil (ap₂ text p₁ p₂));
           }
-  stopped-form (secondField n′ arcs′ u) d v at s e = let z : _≡_ {A = ℕ} 0 1 = cc in absurd (omega arith)
+  stopped-form (secondField n′ arcs′ u) d v at s e = absurd (apart e refl)
 
   scanned
       : (s : List ℕ) (f : Field) (d v at : ℕ) → SmallAhead f → Hand d v → scanFrom f d v at s ≡ sheet n arcs
@@ -95,12 +97,13 @@ module _ (n : ℕ) (arcs : List Arc) where
       (λ g. digit g (hand-digit b h (digit-read d v b g)) (λ k q. scanned bs f (d + 1) (withDigit v b) (at + 1) small k q))
       (⊎-elim
       (λ g. ends g (λ q. scanned bs (ended f v) 0 0 (at + 1) (small-ended f v small (hand-small h)) none q))
-      (λ g. let q = sym (scan-fault f d v at b bs (g .0) (g .1)) ∙ e in let z : _≡_ {A = ℕ} 0 1 = cc in absurd (omega arith)))
+      (λ g. absurd (apart e (scan-fault f d v at b bs (g .0) (g .1)))))
       (byte-cases f d v b)
     where
       digit
           : digitFits d v b ≡ true → Taken d v b
-          → (Hand (d + 1) (withDigit v b) → scanFrom f (d + 1) (withDigit v b) (at + 1) bs ≡ sheet n arcs → LineForm (ahead f ++ inHand (d + 1) (withDigit v b) ++ bs) n arcs)
+          → (Hand (d + 1) (withDigit v b) → scanFrom f (d + 1) (withDigit v b) (at + 1) bs ≡ sheet n arcs
+          → LineForm (ahead f ++ inHand (d + 1) (withDigit v b) ++ bs) n arcs)
           → LineForm (ahead f ++ inHand d v ++ b ∷ bs) n arcs
       digit g t ih = subst (λ (l : List ℕ). LineForm l n arcs) (rw (t .written) (simp append-assoc)) (ih (t .hand) (sym (scan-digit f d v at b bs g) ∙ e))
 
@@ -143,7 +146,8 @@ module _ (f : Field) (x : ℕ) (rest : List ℕ) (r : Read) (next : (at : ℕ) �
               | no q ↦
                   rw (decimal-three x (omega arith))
                   (first (x / 100) ((48 + x / 10 % 10) ∷ (48 + x % 10) ∷ ending f ∷ rest) (omega arith)
-                  ∙ later 1 (x / 100) (x / 10) (x / 10 % 10) (at + 1) ((48 + x % 10) ∷ ending f ∷ rest) (omega arith) (omega arith) (omega arith) (omega arith)
+                  ∙ later 1 (x / 100) (x / 10) (x / 10 % 10) (at + 1) ((48 + x % 10) ∷ ending f ∷ rest) (omega arith) (omega arith) (omega arith)
+                  (omega arith)
                   ∙ later 2 (x / 10) x (x % 10) (at + 1 + 1) (ending f ∷ rest) (omega arith) (omega arith) (omega arith) (omega arith)
                   ∙ closes 3 (at + 1 + 1 + 1) (omega arith))
             ]
@@ -242,7 +246,7 @@ stopped-place countField d at p e = cc
 stopped-place (secondField n arcs u) d at p e = cc
 stopped-place (firstField n arcs) d at p e =
     ⊎-elim
-    (λ (t : eqb d 0 ≡ true). let q = sym (stopped-yes n arcs d at t) ∙ e in let z : _≡_ {A = ℕ} 0 1 = cc in absurd (omega arith))
+    (λ (t : eqb d 0 ≡ true). absurd (apart (stopped-yes n arcs d at t) e))
     (λ (t : eqb d 0 ≡ false). let q = sym (stopped-not n arcs d at t) ∙ e in cc)
     (decided (eqb d 0))
 
@@ -273,7 +277,7 @@ fault (b ∷ bs) f d v at p e =
           stops =
               inl (
                 omega arith,
-                λ more n arcs k. let q′ = sym (scan-fault f d v at b more g₁ g₂) ∙ k in let z : _≡_ {A = ℕ} 0 1 = cc in omega arith,
+                λ more n arcs k. apart k (scan-fault f d v at b more g₁ g₂),
               );
         }
 
@@ -288,7 +292,7 @@ scan-place s p e =
     let k₁ : p + 1 ≡ suc (t .passed) = omega (arith, t .place) in (
       subst (λ (x : ℕ). Continues (take x s)) k (t .goes-on .0, t .goes-on .1, t .goes-on .2, scan-sheet _ _ _ .0 (t .goes-on .3)),
       ⊎-elim
-          (λ h. inl (omega (arith, h .0), λ c. h .1 (c .0) (c .1) (c .2) (scan-sheet _ _ _ .1 (subst (λ (x : ℕ). LineForm (take x s ++ c .0) (c .1) (c .2)) k₁ (c .3)))))
-          (λ h. inr (omega (arith, h), λ n arcs l. let q = sym e ∙ scan-sheet s n arcs .1 l in let z : _≡_ {A = ℕ} 0 1 = cc in omega arith))
+          (λ h. inl (omega (arith, h .0), λ c. let d = subst (λ (x : ℕ). Continues (take x s)) k₁ c in h .1 (d .0) (d .1) (d .2) (scan-sheet _ _ _ .1 (d .3))))
+          (λ h. inr (omega (arith, h), λ n arcs l. apart (scan-sheet s n arcs .1 l) e))
           (t .stops),
     )

@@ -7,7 +7,7 @@ use lib.ListN.{length, take, drop, length-append, length-drop, drop-of-length-le
 use lib.Seq.{take-all}
 use Rattle.poset.specs.Order.{Arc}
 use Rattle.sheet.specs.Text.{lineEnd}
-use Rattle.sheet.specs.Scan.{countField, firstField, Read, sheet, broken, ending, ended, stopped, scanFrom, scan}
+use Rattle.sheet.specs.Scan.{countField, firstField, Read, broken, ending, ended, stopped, scanFrom, scan}
 use Rattle.sheet.specs.Reading.{ReadsNumber, ReadsArc}
 use Rattle.sheet.specs.Listing.{listing, AddsArc, resultOf, Answers}
 use Rattle.sheet.specs.declared.line.Part.the-variants as part
@@ -38,35 +38,35 @@ module _ (s : List ℕ) (start n : ℕ) (held : List ℕ) where
         few = omega arith;
       }
 
-  module _ (list : List ℕ) (at m : ℕ) (g : Going s start n held list at m) where
-    pub going-length : length list ≡ length held
-    going-length = ap length (g .listed) ∙ listing-length (g .arcs) held
+module _ {s : List ℕ} {start n : ℕ} {held list : List ℕ} {at m : ℕ} (g : Going s start n held list at m) where
+  pub going-length : length list ≡ length held
+  going-length = ap length (g .listed) ∙ listing-length (g .arcs) held
 
-    pub going-on
-        : (u v last : ℕ) (next : List ℕ) → ReadsArc s at (line.Arc u v last) → AddsArc m u v list next → Going s start n held next (last + 1) (m + 1)
-    going-on u v last next r p = record {
-      arcs = g .arcs ++ ((u, v) ∷ []);
-      many = omega (arith, g .many, length-append (g .arcs) ((u, v) ∷ []));
-      scans = g .scans ∙ r .scans start n (g .arcs);
-      listed = p .adds (g .arcs) held (g .many) (g .listed);
-      within = omega (arith, r .within .1);
-      few = omega (arith, g .few, r .within .0);
-    }
+  pub going-on
+      : {u v last : ℕ} {next : List ℕ} → ReadsArc s at (line.Arc u v last) → AddsArc m u v list next → Going s start n held next (last + 1) (m + 1)
+  going-on {u} {v} r p = record {
+    arcs = g .arcs ++ ((u, v) ∷ []);
+    many = omega (arith, g .many, length-append (g .arcs) ((u, v) ∷ []));
+    scans = g .scans ∙ r .scans start n (g .arcs);
+    listed = p .adds (g .arcs) held (g .many) (g .listed);
+    within = omega (arith, r .within .1);
+    few = omega (arith, g .few, r .within .0);
+  }
 
-    pub going-done : length s ≤ at → Answers (scanFrom (firstField n []) 0 0 start s) held (Sheet n m) list
-    unfolding resultOf scanFrom stopped
-    going-done h =
-        subst (λ (x : Read). Answers x held (Sheet n m) list)
-        (sym (g .scans ∙ ap (scanFrom (firstField n (g .arcs)) 0 0 (start + at)) (drop-of-length-le s h)))
-        (record { result = ap (Sheet n) (sym (g .many)); listed = g .listed })
+  pub going-done : length s ≤ at → Answers (scanFrom (firstField n []) 0 0 start s) held (Sheet n m) list
+  unfolding resultOf scanFrom stopped
+  going-done h =
+      subst (λ (x : Read). Answers x held (Sheet n m) list)
+      (sym (g .scans ∙ ap (scanFrom (firstField n (g .arcs)) 0 0 (start + at)) (drop-of-length-le s h)))
+      (record { result = ap (Sheet n) (sym (g .many)); listed = g .listed })
 
-    pub going-broken
-        : (place : ℕ) → ReadsArc s at (line.Broken place) → Answers (scanFrom (firstField n []) 0 0 start s) held (Broken (start + place)) list
-    unfolding resultOf
-    going-broken place r =
-        subst (λ (x : Read). Answers x held (Broken (start + place)) list)
-        (sym (g .scans ∙ r .scans start n (g .arcs)))
-        (record { result = refl; listed = going-length })
+  pub going-broken
+      : {place : ℕ} → ReadsArc s at (line.Broken place) → Answers (scanFrom (firstField n []) 0 0 start s) held (Broken (start + place)) list
+  unfolding resultOf
+  going-broken {place} r =
+      subst (λ (x : Read). Answers x held (Broken (start + place)) list)
+      (sym (g .scans ∙ r .scans start n (g .arcs)))
+      (record { result = refl; listed = going-length })
 
 -- The sheet from its count line on.
 
@@ -77,22 +77,23 @@ rest-of s last = take-all (length s - (last + 1)) (drop (last + 1) s) (omega (ar
 pub length-rest : (s : List ℕ) (last : ℕ) → last < length s → last + 1 + length (take (length s - (last + 1)) (drop (last + 1) s)) ≡ length s
 length-rest s last h = rw (rest-of s last) (omega (arith, length-drop (last + 1) s))
 
-module _ (s : List ℕ) (held : List ℕ) where
+module _ {s : List ℕ} where
   count-read : (n last : ℕ) → ReadsNumber lineEnd s 0 (part.Number n last) → scan s ≡ scanFrom (firstField n []) 0 0 (last + 1) (drop (last + 1) s)
   unfolding scan ending ended
   count-read n last r =
       let e : 0 + (last + 1) ≡ last + 1 = omega arith in
       r .scans countField refl 0 ∙ ap (λ (x : ℕ). scanFrom (firstField n []) 0 0 x (drop (last + 1) s)) e
 
+module _ {s held : List ℕ} where
   pub answers-lines
-      : (n last : ℕ) → ReadsNumber lineEnd s 0 (part.Number n last) → (rest : List ℕ) → rest ≡ drop (last + 1) s → (r : SheetRead) (list : List ℕ)
+      : {n last : ℕ} → ReadsNumber lineEnd s 0 (part.Number n last) → {rest : List ℕ} → rest ≡ drop (last + 1) s → {r : SheetRead} {list : List ℕ}
       → Answers (scanFrom (firstField n []) 0 0 (last + 1) rest) held r list → Answers (scan s) held r list
-  answers-lines n last c rest e r list =
+  answers-lines {n} {last} c e {r} {list} =
       subst (λ (x : Read). Answers x held r list) (ap (scanFrom (firstField n []) 0 0 (last + 1)) e ∙ sym (count-read n last c))
 
-  pub answers-broken : (place : ℕ) → ReadsNumber lineEnd s 0 (part.Broken place) → Answers (scan s) held (Broken place) held
+  pub answers-broken : {place : ℕ} → ReadsNumber lineEnd s 0 (part.Broken place) → Answers (scan s) held (Broken place) held
   unfolding scan ending resultOf
-  answers-broken place c =
+  answers-broken {place} c =
       let e : 0 + place ≡ place = omega arith in
       subst (λ (x : Read). Answers x held (Broken place) held)
       (sym (c .scans countField refl 0 ∙ ap broken e))

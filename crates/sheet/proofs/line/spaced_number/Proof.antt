@@ -13,9 +13,9 @@ number-requires c κs = search needs
 
 returns : tie.Need-returns
 returns c =
-    let a = c .before .before .before .args in
-    let h = c .before .before .before .pre in
-    reads-none space (a .s .now) (a .at) (c .before .number .result) (c .before .number .ensures) (c .if1 .taken) (omega arith) (inl h)
+    let o = c .before .before .before in
+    let n = c .before .number in
+    reads-none space (o .args .s .now) (o .args .at) (n .result) (n .ensures) (c .if1 .taken) (omega (arith, o .pre)) (inl (o .pre))
 
 is-at-requires : tie.Need-is-at-requires
 is-at-requires c κs = search needs
@@ -24,13 +24,16 @@ returns-2 : tie.Need-returns-2
 unfolding space
 returns-2 c =
     let a = c .before .before .before .before .before .args in
-    reads-ended space (a .s .now) (a .at) (c .before .before .before .number .result) (c .before .before .before .number .ensures) (c .before .before .if1 .left) (sym (c .before .is-at .ensures) ∙ c .if2 .taken)
+    let n = c .before .before .before .number in
+    reads-ended space (a .s .now) (a .at) (n .result) (n .ensures) (c .before .before .if1 .left) (sym (c .before .is-at .ensures) ∙ c .if2 .taken)
 
 returns-3 : tie.Need-returns-3
 unfolding space
 returns-3 c =
-    let a = c .before .before .before .before .before .args in
-    reads-fault space (a .s .now) (a .at) (c .before .before .before .number .result) (c .before .before .before .number .ensures) (c .before .before .if1 .left) (omega (arith, c .before .before .before .before .before .pre)) (sym (c .before .is-at .ensures) ∙ c .if2 .left)
+    let o = c .before .before .before .before .before in
+    let n = c .before .before .before .number in
+    reads-fault space (o .args .s .now) (o .args .at) (n .result) (n .ensures) (c .before .before .if1 .left) (omega (arith, o .pre))
+    (sym (c .before .is-at .ensures) ∙ c .if2 .left)
 
 pub spaced-number-spec : {M : Type 1} → statement M
 spaced-number-spec =

@@ -2,7 +2,7 @@
 use mathlib.Core.Logic.{inl, inr, ⊎-elim}
 use native.Mathlib.Omega.{arith}
 use borrow.Author.Tests.{eqb-true, eqb-false}
-use Rattle.sheet.proofs.Reading.{numeral-none, numeral-one, numeral-two, numeral-three}
+use Rattle.sheet.proofs.Numeral.{numeral-none, numeral-one, numeral-two, numeral-three}
 use borrow.Author.Needs.{needs}
 use Rattle.sheet.proofs.number.number.Statement.{statement}
 use Rattle.sheet.proofs.number.number.Tie as tie
@@ -11,7 +11,7 @@ digit-requires : tie.Need-digit-requires
 digit-requires c κs = search needs
 
 returns : tie.Need-returns
-returns c = let a = c .before .before .before .args in numeral-none (a .s .now) (a .at) (c .before .digit .result) (c .before .digit .ensures) (c .if1 .taken)
+returns c = numeral-none (c .before .digit .ensures) (c .if1 .taken)
 
 add-digit : tie.Need-add-digit
 add-digit c = omega (arith, c .before .digit .ensures .there (c .if1 .left) .0)
@@ -27,8 +27,7 @@ add-t12 c = omega (arith, c .before .before .before .digit .ensures .there (c .b
 
 returns-2 : tie.Need-returns-2
 returns-2 c =
-    let a = c .before .before .before .before .before .args in
-    numeral-one (a .s .now) (a .at) (c .before .before .before .digit .result) (c .before .before .before .digit .ensures) (c .before .digit2 .result) (c .before .digit2 .ensures) (c .before .before .if1 .left)
+    numeral-one (c .before .before .before .digit .ensures) (c .before .digit2 .ensures) (c .before .before .if1 .left)
     (⊎-elim (λ w. inl (w .taken)) (λ w. inr (eqb-true _ _ (w .1 .taken))) (c .if2 .came))
 
 mul-ab : tie.Need-mul-ab
@@ -51,9 +50,9 @@ add-t15 c = omega (arith, c .before .before .before .before .digit2 .ensures .th
 
 returns-3 : tie.Need-returns-3
 returns-3 c =
-    let a = c .before .before .before .before .before .before .before .before .args in
-    numeral-two (a .s .now) (a .at) (c .before .before .before .before .before .before .digit .result) (c .before .before .before .before .before .before .digit .ensures) (c .before .before .before .before .digit2 .result) (c .before .before .before .before .digit2 .ensures) (c .before .before .before .before .before .if1 .left)
-    (c .before .digit3 .result) (c .before .digit3 .ensures) (c .before .before .before .if2 .left) (eqb-false _ _ (c .before .before .if3 .left)) (c .if4 .taken)
+    let d = c .before .before .before .before in
+    numeral-two (d .before .before .digit .ensures) (d .digit2 .ensures) (d .before .if1 .left) (c .before .digit3 .ensures)
+    (c .before .before .before .if2 .left) (eqb-false _ _ (c .before .before .if3 .left)) (c .if4 .taken)
 
 mul-t13 : tie.Need-mul-t13
 mul-t13 c = search needs
@@ -69,9 +68,9 @@ add-t8 c = omega (arith, c .before .digit3 .ensures .there (c .if4 .left) .0)
 
 returns-4 : tie.Need-returns-4
 returns-4 c =
-    let a = c .before .before .before .before .before .before .before .before .args in
-    numeral-three (a .s .now) (a .at) (c .before .before .before .before .before .before .digit .result) (c .before .before .before .before .before .before .digit .ensures) (c .before .before .before .before .digit2 .result) (c .before .before .before .before .digit2 .ensures) (c .before .before .before .before .before .if1 .left)
-    (c .before .digit3 .result) (c .before .digit3 .ensures) (c .before .before .before .if2 .left) (eqb-false _ _ (c .before .before .if3 .left)) (c .if4 .left)
+    let d = c .before .before .before .before in
+    numeral-three (d .before .before .digit .ensures) (d .digit2 .ensures) (d .before .if1 .left) (c .before .digit3 .ensures)
+    (c .before .before .before .if2 .left) (eqb-false _ _ (c .before .before .if3 .left)) (c .if4 .left)
 
 pub number-spec : {M : Type 1} → statement M
 number-spec =
