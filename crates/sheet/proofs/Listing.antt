@@ -4,11 +4,11 @@ use mathlib.Core.Path.{_≡_, refl, sym, ap, _∙_}
 use mathlib.Core.List.{List, [], _∷_, _++_, append-assoc}
 use native.Mathlib.Omega.{arith}
 use lib.ListN.{length, take, drop, set, length-append, length-take, length-drop, getD}
-use lib.Seq.{take-all, take-append-le, drop-cons, set-at, append-snoc, take-nil}
+use lib.Seq.{take-all, take-at, take-append-le, drop-cons, set-at, append-snoc, take-nil}
 use Rattle.poset.specs.Order.{Arc}
 use Rattle.sheet.specs.Listing.{numbers, overlay, listing, AddsArc}
 
-numbers-length : (arcs : List Arc) → length (numbers arcs) ≡ 2 * length arcs
+pub numbers-length : (arcs : List Arc) → length (numbers arcs) ≡ 2 * length arcs
 unfolding numbers
 numbers-length [] = refl
 numbers-length (a ∷ arcs) = omega (arith, numbers-length arcs)
@@ -32,9 +32,14 @@ unfolding listing overlay numbers
 listing-none held = ap (λ (l : List Arc). numbers l ++ drop (length (numbers l)) held) (sym (take-nil (length held / 2)))
 
 -- arcs that all have room
-listing-fits : (arcs : List Arc) (held : List ℕ) (k : ℕ) → k ≡ 2 * length arcs → length arcs ≤ length held / 2 → listing arcs held ≡ numbers arcs ++ drop k held
+pub listing-fits
+    : (arcs : List Arc) (held : List ℕ) (k : ℕ) → k ≡ 2 * length arcs → length arcs ≤ length held / 2
+    → listing arcs held ≡ numbers arcs ++ drop k held
 unfolding listing overlay
 listing-fits arcs held k e h = rw (take-all (length held / 2) arcs h, numbers-length arcs, e)
+
+pub listing-front : (arcs : List Arc) (held : List ℕ) → length arcs ≤ length held / 2 → take (2 * length arcs) (listing arcs held) ≡ numbers arcs
+listing-front arcs held h = rw (listing-fits arcs held (2 * length arcs) refl h) (take-at _ _ _ (numbers-length arcs))
 
 module _ (i u v : ℕ) where
   two-sets

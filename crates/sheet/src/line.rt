@@ -7,13 +7,14 @@ ghost use lib.ListN.{length};
 ghost use Rattle.sheet.specs.Text.{lineEnd, space};
 ghost use Rattle.sheet.specs.Reading.{isAt, endAt, ReadsNumber, ReadsArc};
 
-// The place of a line's last byte, or where the form breaks.
+// The place of a line's last byte, or where the form breaks. Not the place after it: computed from the byte that is read,
+// it would hold up the next line's reading.
 pub enum End {
     At(usize),
     Broken(usize),
 }
 
-// A number and the place of the last byte that belongs to it, which ends it; or the place of the fault.
+// A number and the place of the last byte of what ends it, or the place of the fault.
 pub enum Part {
     Number(u16, usize),
     Broken(usize),
@@ -34,7 +35,7 @@ fn is_at(s: &[u8], at: usize, b: u8) -> bool
     s[at] == b
 }
 
-// Where the line ends that has been read up to `at`.
+// Where the line ends that has been read up to `at`. No other function knows what ends a line.
 fn line_end(s: &[u8], at: usize) -> End
     ensures { λ r. ⌜ r ≡ endAt (now (s .entry)) at ⌝ }
 {
