@@ -1,0 +1,72 @@
+-- `sheet::line::order_line` meets its contract. Assumes nothing.
+use mathlib.Core.Path.{subst}
+use native.Mathlib.Omega.{arith}
+use Rattle.sheet.specs.Text.{lineEnd, space}
+use Rattle.sheet.specs.Reading.{ReadsNumber}
+use Rattle.sheet.specs.declared.line.Part.the-variants as part
+use Rattle.sheet.proofs.Reading.{reads-arc, reads-no-first, reads-no-second}
+use borrow.Author.Needs.{needs}
+use Rattle.sheet.proofs.line.order_line.Statement.{statement}
+use Rattle.sheet.proofs.line.order_line.Tie as tie
+
+-- the first number of the line
+first
+    : (c : tie.After-first)
+    → let a = c .before .before .before .before .args in
+    ReadsNumber space (a .s .now) (a .at) (part.Number (c .first .given .0 .0) (c .first .given .0 .1 .0))
+first c =
+    let a = c .before .before .before .before .args in
+    subst (ReadsNumber space (a .s .now) (a .at)) (c .first .given .1) (c .before .before .spaced-number .ensures)
+
+spaced-number-requires : tie.Need-spaced-number-requires
+spaced-number-requires c κs = search needs
+
+enum-known-first : tie.Need-enum-known-first
+enum-known-first c = search needs
+
+add-last-number : tie.Need-add-last-number
+add-last-number c = omega (arith, first (c .before) .within, c .before .before .before .before .before .good)
+
+last-number-requires : tie.Need-last-number-requires
+last-number-requires c κs = omega (arith, first (c .before) .within)
+
+enum-known-second : tie.Need-enum-known-second
+enum-known-second c = search needs
+
+enum-known-second-2 : tie.Need-enum-known-second-2
+enum-known-second-2 c = search needs
+
+enum-known-first-2 : tie.Need-enum-known-first-2
+enum-known-first-2 c = search needs
+
+returns : tie.Need-returns
+returns c =
+    let f = c .before .before .before .before .before in
+    let s = f .before .before .before .before .args .s .now in
+    reads-arc (first f) (subst (ReadsNumber lineEnd s _) (c .before .second .given .1) (c .before .before .before .last-number .ensures))
+
+returns-2 : tie.Need-returns-2
+returns-2 c =
+    let f = c .before .before .before .before .before in
+    let s = f .before .before .before .before .args .s .now in
+    reads-no-second (first f) (subst (ReadsNumber lineEnd s _) (c .before .second2 .given .1) (c .before .before .before .last-number .ensures))
+
+returns-3 : tie.Need-returns-3
+returns-3 c =
+    let a = c .before .before .before .before .before .args in
+    reads-no-first (subst (ReadsNumber space (a .s .now) (a .at)) (c .before .first2 .given .1) (c .before .before .before .spaced-number .ensures))
+
+pub order-line-spec : {M : Type 1} → statement M
+order-line-spec =
+    tie.close
+    (tie.spec
+    spaced-number-requires
+    enum-known-first
+    add-last-number
+    last-number-requires
+    enum-known-second
+    enum-known-second-2
+    enum-known-first-2
+    returns
+    returns-2
+    returns-3)

@@ -1,0 +1,41 @@
+-- What a reader of sheets gives, and leaves in the lent list.
+use Prim.Native.Nat.{ℕ, _/_}
+use mathlib.Core.Path.{_≡_}
+use mathlib.Core.List.{List, [], _∷_, _++_}
+use lib.ListN.{length, take, drop}
+use Rattle.poset.specs.Order.{Arc}
+use Rattle.sheet.specs.Scan.{Read, sheet, broken}
+use Rattle.sheet.specs.declared.SheetRead.{SheetRead}
+use Rattle.sheet.specs.declared.SheetRead.the-variants.{Sheet, Broken}
+
+-- the arcs as numbers, two for each
+unfoldable pub numbers : List Arc → List ℕ
+numbers [] = []
+numbers (a ∷ more) = a .0 ∷ a .1 ∷ numbers more
+
+-- what an area holds after a call: what was written, and then its own
+unfoldable pub overlay : List ℕ → List ℕ → List ℕ
+overlay written held = written ++ drop (length written) held
+
+-- the arcs' numbers over what a list held: as many arcs as have room
+unfoldable pub listing : List Arc → List ℕ → List ℕ
+listing arcs held = overlay (numbers (take (length held / 2) arcs)) held
+
+-- a list with arc i beside those ahead of it
+pub record AddsArc (i u v : ℕ) (entry exit : List ℕ) : Type 0 where
+  pub adds : (arcs : List Arc) (held : List ℕ) → length arcs ≡ i → entry ≡ listing arcs held → exit ≡ listing (arcs ++ ((u, v) ∷ [])) held
+
+-- the result of a read: the count and how many arcs, or the place of the fault
+unfoldable pub resultOf : Read → SheetRead
+resultOf (sheet n arcs) = Sheet n (length arcs)
+resultOf (broken at) = Broken at
+
+-- the list after a read: the arcs over what it held; after a fault only its length is promised
+abbrev pub Listed : Read → List ℕ → List ℕ → Type 0
+Listed (sheet n arcs) held list = list ≡ listing arcs held
+Listed (broken at) held list = length list ≡ length held
+
+-- a read of a sheet, as a result and a list
+pub record Answers (read : Read) (held : List ℕ) (r : SheetRead) (list : List ℕ) : Type 0 where
+  pub result : r ≡ resultOf read
+  pub listed : Listed read held list
