@@ -1,3 +1,6 @@
 pub mod Lists
 pub mod Words
 pub mod Sets
+pub mod Tables
+pub mod Flat
+pub mod Warshall

@@ -1,12 +1,13 @@
 -- Lists of which a test keeps a part, searches in them, and the numbers of a range.
-use Prim.Native.Nat.{ℕ, zero, suc, _+_, _<_}
+use Prim.Native.Nat.{ℕ, zero, suc, _+_, _-_, _≤_, _<_}
 use native.Mathlib.Nat.{lt-of-lt-of-le}
 use native.Mathlib.Decide.{decLt}
+use native.Mathlib.Numerals.{add-one}
 use native.Mathlib.Omega.{arith}
 use mathlib.Core.Path.{_≡_, refl, sym, ap, _∙_}
 use mathlib.Core.List.{List, [], _∷_, _++_, map, List·Memᴰ, List·Memᴰ·head, List·Memᴰ·tail}
-use mathlib.Core.Bool.{Bool, true, false, _&&_}
-use mathlib.Core.Option.{Option, none}
+use mathlib.Core.Bool.{Bool, true, false, _&&_, _||_}
+use mathlib.Core.Option.{Option, none, some}
 use mathlib.Core.Logic.{⊎-elim}
 use lib.Dec.{ltb}
 use borrow.Author.Tests.{lt-ltb, le-ltb}
@@ -21,6 +22,18 @@ and-true false = refl
 pub and-false : (b : Bool) → (b && false) ≡ false
 and-false true = refl
 and-false false = refl
+
+pub and-comm : (a b : Bool) → (a && b) ≡ (b && a)
+and-comm true b = sym (and-true b)
+and-comm false b = sym (and-false b)
+
+pub or-false : (b : Bool) → (b || false) ≡ b
+or-false true = refl
+or-false false = refl
+
+pub or-assoc : (a b c : Bool) → ((a || b) || c) ≡ (a || (b || c))
+or-assoc true b c = refl
+or-assoc false b c = refl
 
 module _ {ℓ} {A : Type ℓ} (p : A → Bool) where
   pub keep-append : (xs ys : List A) → keep p (xs ++ ys) ≡ keep p xs ++ keep p ys
@@ -115,3 +128,31 @@ module _ (p : ℕ → Bool) (z : ℕ) (clear : (i : ℕ) → i < z → p i ≡ f
 
   pub keep-from : (m : ℕ) → keep p (below (z + m)) ≡ keep p (upFrom z m)
   keep-from m = rw (below-add z m, keep-append p (below z) (upFrom z m), keep-none p (below z) (λ i l. clear i (mem-below z l)))
+
+-- a search over the numbers below n that has come to k
+module _ {ℓ} {B : Type ℓ} (f : ℕ → Option B) (n : ℕ) where
+  pub record Looked (k : ℕ) : Type ℓ where
+    pub within : k ≤ n
+    pub left : first f (below n) ≡ first f (upFrom k (n - k))
+
+  pub looked-none : Looked 0
+  unfolding below
+  looked-none = let e : n - 0 ≡ n = omega arith in record { within = zero-le; left = rw e }
+
+  module _ (k : ℕ) (s : Looked k) where
+    pub looked-end : n ≤ k → none ≡ first f (below n)
+    unfolding upFrom first
+    looked-end l = let e : n - k ≡ 0 = omega arith in sym (s .left ∙ rw e)
+
+    module _ (l : k < n) where
+      next-left : first f (below n) ≡ first f (k ∷ upFrom (suc k) (n - suc k))
+      unfolding upFrom
+      next-left = let e : n - k ≡ suc (n - suc k) = omega arith in s .left ∙ ap (λ (m : ℕ). first f (upFrom k m)) e
+
+      pub looked-hit : {b : B} → f k ≡ some b → some b ≡ first f (below n)
+      looked-hit h = sym (next-left ∙ first-here f k _ h)
+
+      pub looked-next : f k ≡ none → Looked (k + 1)
+      looked-next h =
+          let e : k + 1 ≡ suc k = add-one k in
+          record { within = omega arith; left = rw e (next-left ∙ first-later f k _ h) }

@@ -5,8 +5,8 @@ use native.Mathlib.Decide.{decLt, ℕ-discrete}
 use native.Mathlib.Omega.{arith}
 use mathlib.Core.Path.{_≡_, refl, sym, ap, ap₂, subst, _∙_}
 use mathlib.Core.List.{List, [], _∷_, map, List·Memᴰ}
-use mathlib.Core.Bool.{Bool, true, false, _&&_, not}
-use mathlib.Core.Logic.{_⊎_, inl, inr}
+use mathlib.Core.Bool.{Bool, true, false, _&&_, _||_, not}
+use mathlib.Core.Logic.{_⊎_, inl, inr, ⊎-elim}
 use mir.Syntax.{w64}
 use mir.Val.{Fits}
 use lib.Dec.{eqb, ltb}
@@ -17,8 +17,8 @@ use borrow.Author.Tests.{lt-ltb, le-ltb, eq-eqb, ne-eqb, ltb-true, eqb-true}
 use Rattle.poset.specs.Lists.{any, keep, upFrom, below}
 use Rattle.poset.proofs.Laws.{clash, same-test, any-hit, any-found, any-none, keep-yes, keep-not, below-mem, mem-below, mem-upFrom}
 use Rattle.relation.specs.Table.{bit, has, members, Least}
-use Rattle.relation.proofs.Lists.{and-true, and-false, keep-append, keep-agree, keep-shift, below-add, any-after, keep-from}
-use Rattle.relation.proofs.Words.{bit-and, bit-complement, bit-zero, bit-power, bit-ones, Lowest, lowest, ones-count}
+use Rattle.relation.proofs.Lists.{and-true, and-false, and-comm, keep-append, keep-agree, keep-shift, below-add, any-after, keep-from}
+use Rattle.relation.proofs.Words.{bit-and, bit-or, bit-complement, bit-zero, bit-power, bit-ones, Lowest, lowest, ones-count}
 
 -- what a row has, by its words
 
@@ -74,6 +74,20 @@ pointwise g z a b m n x y low high =
 
 pub bit-but : (a b i : ℕ) → i < 64 → Fits w64 b → bit (bitAnd a (2 ^ 64 - 1 - b)) i ≡ (bit a i && not (bit b i))
 bit-but a b i l h = bit-and a _ i ∙ ap (λ (t : Bool). bit a i && t) (bit-complement 64 i b l (h .fits))
+
+-- a mask of all ones or of none
+pub bit-masked
+    : (test : Bool) (m : ℕ) → ((test ≡ true) × (m ≡ 2 ^ 64 - 1)) ⊎ ((test ≡ false) × (m ≡ 0))
+    → (a b i : ℕ) → i < 64 → bit (bitOr a (bitAnd b m)) i ≡ (bit a i || (test && bit b i))
+bit-masked test m h a b i l =
+    bit-or a _ i ∙ ap (λ (t : Bool). bit a i || t) (bit-and b m i ∙ ap (λ (t : Bool). bit b i && t) mask ∙ and-comm (bit b i) test)
+  where
+    mask : bit m i ≡ test
+    mask =
+        ⊎-elim
+        (λ w. ap (λ (x : ℕ). bit x i) (w .1) ∙ bit-ones 64 i ∙ lt-ltb i 64 l ∙ sym (w .0))
+        (λ w. ap (λ (x : ℕ). bit x i) (w .1) ∙ bit-zero i ∙ sym (w .0))
+        h
 
 -- some rows
 

@@ -1,7 +1,6 @@
 //! Arcs as a flat list, two numbers for each: what is wrong with them, and the table that they make.
 use crate::Found;
 use crate::set;
-
 ghost use Prim.Native.Nat.{ℕ};
 ghost use mathlib.Core.Path.{_≡_};
 ghost use Rattle.poset.specs.Order.{Within, arc};

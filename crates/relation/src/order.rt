@@ -1,18 +1,19 @@
 //! The transitive closure of a table, and what is looked for in it.
 use crate::Found;
 use crate::set;
-
 ghost use Prim.Native.Nat.{ℕ, _<_, _≤_};
 ghost use mathlib.Core.Path.{_≡_};
 ghost use mathlib.Core.Bool.{_&&_, _||_};
+ghost use lib.ListN.{length};
 ghost use Rattle.poset.specs.Order.{via, firstOnCycle};
 ghost use Rattle.relation.specs.Table.{holds, Inside};
 ghost use Rattle.relation.specs.Arcs.{found};
 
 // One pass: what is before k is before all that k is before.
 fn pass(t: &mut [[u64; 2]; 128], k: usize, n: usize)
-    requires { ⌜ (n ≤ 128) × (k < n) ⌝ }
+    requires { ⌜ (n ≤ 128) × (k < n) × (length (now t) ≡ 128) ⌝ }
     requires { ⌜ Inside n (now t) ⌝ }
+    ensures { λ _. ⌜ length (now (t .exit)) ≡ 128 ⌝ }
     ensures { λ _. ⌜ ((u v : ℕ) → holds (now (t .exit)) u v
         ≡ (holds (now (t .entry)) u v || (holds (now (t .entry)) u k && holds (now (t .entry)) k v))) ⌝ }
 {

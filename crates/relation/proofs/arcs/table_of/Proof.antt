@@ -1,91 +1,92 @@
+use Prim.Native.Nat.{ℕ}
+use mathlib.Core.List.{List}
+use Prim.Native.Nat.{_+_, _-_, _<_}
+use native.Mathlib.Omega.{arith}
+use lib.ListN.{length, getD}
+use Rattle.relation.proofs.Flat.{Built, built-none, first-below, second-below, built-next, built-end}
+use borrow.Author.Needs.{needs}
 use Rattle.relation.proofs.arcs.table_of.Statement.{statement}
 use Rattle.relation.proofs.arcs.table_of.Tie as tie
-use Rattle.relation.proofs.arcs.table_of.Reads as reads
-use Rattle.relation.proofs.arcs.table_of.Lts as lts
 use Rattle.relation.proofs.set.only.Reads as only-reads
 use Rattle.relation.proofs.set.union.Reads as union-reads
 
 abbrev Inv-loop : tie.InvT-loop
-Inv-loop arcs t₀ i₀ t i = ?
+Inv-loop arcs t₀ i₀ t i = Built arcs t i
 
 abbrev μ-loop : tie.MeasureT-loop
-μ-loop arcs t₀ i₀ t i = ?
+μ-loop arcs t₀ i₀ t i = length arcs - i
 
--- src/arcs.rt:47:5
+-- the two jobs of an arc that is read
+module _ (c : tie.In-loop Inv-loop μ-loop) where
+  abbrev arcs : List ℕ
+  arcs = c .before .before .before .args .arcs .now
+
+  jobs : (getD arcs (c .before .loop .i) 0 < 128) × (getD arcs (c .before .loop .i + 1) 0 < 128)
+  jobs =
+      let l = c .before .loop in
+      (first-below arcs (l .t) (l .i) (l .inv) (c .loop-test .taken), second-below arcs (l .t) (l .i) (l .inv) (c .loop-test .taken))
+
 loop-holds : tie.Need-loop-holds Inv-loop μ-loop
-loop-holds c = ?
+loop-holds c = built-none (c .before .args .arcs .now) (c .before .pre)
 
--- src/arcs.rt:47:11
 add-loop : tie.Need-add-loop Inv-loop μ-loop
-add-loop c = ?
+add-loop c = omega arith
 
--- src/arcs.rt:48:17
 mul-u : tie.Need-mul-u Inv-loop μ-loop
-mul-u c = ?
+mul-u c = search needs
 
--- src/arcs.rt:48:17
 shared-slice-read-u : tie.Need-shared-slice-read-u Inv-loop μ-loop
-shared-slice-read-u c = ?
+shared-slice-read-u c = search needs
 
--- src/arcs.rt:48:17
 cast-u : tie.Need-cast-u Inv-loop μ-loop
-cast-u c = ?
+cast-u c = omega (arith, jobs (c .before))
 
--- src/arcs.rt:49:22
 add-v : tie.Need-add-v Inv-loop μ-loop
-add-v c = ?
+add-v c = search needs
 
--- src/arcs.rt:49:17
 mul-v : tie.Need-mul-v Inv-loop μ-loop
-mul-v c = ?
+mul-v c = search needs
 
--- src/arcs.rt:49:17
 shared-slice-read-v : tie.Need-shared-slice-read-v Inv-loop μ-loop
-shared-slice-read-v c = ?
+shared-slice-read-v c = search needs
 
--- src/arcs.rt:49:17
 cast-v : tie.Need-cast-v Inv-loop μ-loop
-cast-v c = ?
+cast-v c = omega (arith, jobs (c .before .before))
 
--- src/arcs.rt:50:27
 mul-union : tie.Need-mul-union Inv-loop μ-loop
-mul-union c = ?
+mul-union c = omega (arith, jobs (c .before .before))
 
--- src/arcs.rt:50:27
 array-copy-out-union : tie.Need-array-copy-out-union Inv-loop μ-loop
-array-copy-out-union c = ?
+array-copy-out-union c = omega (arith, jobs (c .before .before))
 
--- src/arcs.rt:50:33
 only-requires : tie.Need-only-requires Inv-loop μ-loop
-only-requires c κs = ?
+only-requires c κs = omega (arith, jobs (c .before .before .before))
 
--- src/arcs.rt:50:16
 union-requires : tie.Need-union-requires Inv-loop μ-loop
-union-requires c κs = ?
+union-requires c κs = search needs
 
--- src/arcs.rt:50:9
 mul-t : tie.Need-mul-t Inv-loop μ-loop
-mul-t c = ?
+mul-t c = omega (arith, jobs (c .before .before .before .before .before))
 
--- src/arcs.rt:50:9
 array-set-from-t : tie.Need-array-set-from-t Inv-loop μ-loop
-array-set-from-t c = ?
+array-set-from-t c = omega (arith, jobs (c .before .before .before .before .before))
 
--- src/arcs.rt:51:9
 add-i : tie.Need-add-i Inv-loop μ-loop
-add-i c = ?
+add-i c = search needs
 
--- src/arcs.rt:47:5
 loop-less : tie.Need-loop-less Inv-loop μ-loop
-loop-less c = ?
+loop-less c = omega arith
 
--- src/arcs.rt:47:5
 loop-again : tie.Need-loop-again Inv-loop μ-loop
-loop-again c = ?
+loop-again c =
+    let q = c .before .before .before .before .before in
+    let l = q .before .loop in
+    built-next (q .before .before .before .args .arcs .now) (l .t) (l .i) (l .inv) (q .loop-test .taken) (c .union .result) (c .before .only .result)
+    (c .union .ensures)
+    (c .before .only .ensures)
 
--- src/arcs.rt:40:1
 returns : tie.Need-returns Inv-loop μ-loop
-returns c = ?
+returns c = built-end (c .before .before .before .args .arcs .now) (c .before .loop .t) (c .before .loop .i) (c .before .loop .inv) (c .loop-test .left)
 
 pub table-of-spec : {M : Type 1} → statement M
 table-of-spec =

@@ -1,0 +1,34 @@
+-- What a table holds as its rows are set.
+use Prim.Native.Nat.{ℕ, zero, suc, _/_, _%_, _<_}
+use native.Mathlib.Decide.{ℕ-discrete}
+use mathlib.Core.Path.{_≡_, refl, ap, _∙_}
+use mathlib.Core.List.{List, [], _∷_}
+use mathlib.Core.Bool.{false}
+use lib.ListN.{length, getD, set, replicate}
+use lib.Seq.{getD-set-same, getD-set-other}
+use Rattle.poset.specs.Order.{Rel}
+use Rattle.relation.specs.Table.{bit, has, holds}
+use Rattle.relation.proofs.Words.{bit-zero}
+
+-- after a row is set, a table holds a relation that is right at this row, and was right elsewhere
+pub set-row
+    : (r : Rel) (t : List (List ℕ)) (u : ℕ) (row : List ℕ) → u < length t → ((v : ℕ) → has row v ≡ r u v)
+    → ((x v : ℕ) → (x ≡ u → ⊥) → holds t x v ≡ r x v) → (x v : ℕ) → holds (set t u row) x v ≡ r x v
+unfolding holds
+set-row r t u row l here there x v = by (ℕ-discrete x u)
+  where
+    by : Dec (x ≡ u) → has (getD (set t u row) x []) v ≡ r x v
+    by (yes e) = rw e (ap (λ s. has s v) (getD-set-same t u row [] l) ∙ here v)
+    by (no d) = ap (λ s. has s v) (getD-set-other t u x row [] d) ∙ there x v d
+
+-- a table of zeros holds nothing
+pub holds-blank : (n u v : ℕ) → holds (replicate n (replicate 2 0)) u v ≡ false
+unfolding holds has
+holds-blank zero u v = bit-zero (v % 64)
+holds-blank (suc n) zero v = ap (λ (w : ℕ). bit w (v % 64)) (zeros (v / 64)) ∙ bit-zero (v % 64)
+  where
+    zeros : (q : ℕ) → _≡_ {A = ℕ} (getD (0 ∷ 0 ∷ []) q 0) 0
+    zeros zero = refl
+    zeros (suc zero) = refl
+    zeros (suc (suc q)) = refl
+holds-blank (suc n) (suc u) v = holds-blank n u v
