@@ -122,7 +122,7 @@ module _ (xs : List ℕ) where
 
           more : (u v : ℕ) → holds (set t x row) u v ≡ (holds t u v || (eqb x u && eqb y v))
           more =
-              set-row (λ u v. holds t u v || (eqb x u && eqb y v)) t x row (rw (b .rows) first-below)
+              set-row t x row (λ u v. holds t u v || (eqb x u && eqb y v)) (rw (b .rows) first-below)
               (λ v. h v ∙ ap₂ (λ e d. holds t x v || (e && d)) (sym (eq-eqb x x refl)) (g v))
               (λ u v d. sym (ap (λ e. holds t u v || (e && eqb y v)) (ne-eqb x u (λ e. d (sym e))) ∙ or-false (holds t u v)))
 

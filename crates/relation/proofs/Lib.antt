@@ -4,3 +4,5 @@ pub mod Sets
 pub mod Tables
 pub mod Flat
 pub mod Warshall
+pub mod Covers
+pub mod Listing

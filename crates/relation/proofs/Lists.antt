@@ -1,8 +1,7 @@
 -- Lists of which a test keeps a part, searches in them, and the numbers of a range.
-use Prim.Native.Nat.{ℕ, zero, suc, _+_, _-_, _≤_, _<_, zero-le}
-use native.Mathlib.Nat.{lt-of-lt-of-le}
+use Prim.Native.Nat.{ℕ, zero, suc, _+_, _-_, _≤_, _<_, zero-le, suc-le-suc}
+use native.Mathlib.Nat.{lt-of-lt-of-le, le-trans, le-suc}
 use native.Mathlib.Decide.{decLt}
-use native.Mathlib.Numerals.{add-one}
 use native.Mathlib.Omega.{arith}
 use mathlib.Core.Path.{_≡_, refl, sym, ap, _∙_}
 use mathlib.Core.List.{List, [], _∷_, _++_, map, List·Memᴰ, List·Memᴰ·head, List·Memᴰ·tail}
@@ -10,6 +9,7 @@ use mathlib.Core.Bool.{Bool, true, false, _&&_, _||_}
 use mathlib.Core.Option.{Option, none, some}
 use mathlib.Core.Logic.{⊎-elim}
 use lib.Dec.{ltb}
+use lib.ListN.{length}
 use borrow.Author.Tests.{lt-ltb, le-ltb}
 use Rattle.poset.specs.Lists.{any, keep, upFrom, below, first}
 use Rattle.poset.proofs.Laws.{decided, any-hit, any-none, keep-yes, keep-not, first-here, first-later, found-or-none}
@@ -67,6 +67,21 @@ module _ {ℓ} {A : Type ℓ} (p : A → Bool) where
 
         rest : (y : A) → List·Memᴰ y xs → p y ≡ q y
         rest y m = h y (List·Memᴰ·tail m)
+
+    -- a test that passes less keeps no more
+    pub keep-fewer : ((x : A) → p x ≡ true → q x ≡ true) → (xs : List A) → length (keep p xs) ≤ length (keep q xs)
+    unfolding keep
+    keep-fewer h [] = zero-le
+    keep-fewer h (x ∷ xs) =
+        ⊎-elim
+        (λ (e : p x ≡ true). rw (keep-yes p x xs e, keep-yes q x xs (h x e)) (suc-le-suc (keep-fewer h xs)))
+        (λ (e : p x ≡ false).
+        rw (keep-not p x xs e)
+        (⊎-elim
+        (λ (d : q x ≡ true). rw (keep-yes q x xs d) (le-trans (keep-fewer h xs) (le-suc (length (keep q xs)))))
+        (λ (d : q x ≡ false). rw (keep-not q x xs d) (keep-fewer h xs))
+        (decided (q x))))
+        (decided (p x))
 
   -- a search that finds nothing where the test fails
   module _ {κ} {B : Type κ} (f : A → Option B) (h : (x : A) → p x ≡ false → f x ≡ none) where
@@ -129,6 +144,23 @@ module _ (p : ℕ → Bool) (z : ℕ) (clear : (i : ℕ) → i < z → p i ≡ f
   pub keep-from : (m : ℕ) → keep p (below (z + m)) ≡ keep p (upFrom z m)
   keep-from m = rw (below-add z m, keep-append p (below z) (upFrom z m), keep-none p (below z) (λ i l. clear i (mem-below z l)))
 
+-- the numbers below n, from k on: upFrom k (n - k)
+
+pub range-start : (n : ℕ) → below n ≡ upFrom 0 (n - 0)
+unfolding below
+range-start n = let e : n - 0 ≡ n = omega arith in rw e
+
+pub range-step : (k n : ℕ) → k < n → upFrom k (n - k) ≡ k ∷ upFrom (k + 1) (n - (k + 1))
+unfolding upFrom
+range-step k n l =
+    let e : n - k ≡ suc (n - (k + 1)) = omega arith in
+    let d : suc k ≡ k + 1 = omega arith in
+    rw (e, upFrom, d)
+
+pub range-end : (k n : ℕ) → n ≤ k → upFrom k (n - k) ≡ []
+unfolding upFrom
+range-end k n l = let e : n - k ≡ 0 = omega arith in rw e
+
 -- a search over the numbers below n that has come to k
 module _ {ℓ} {B : Type ℓ} (f : ℕ → Option B) (n : ℕ) where
   pub record Looked (k : ℕ) : Type ℓ where
@@ -136,23 +168,17 @@ module _ {ℓ} {B : Type ℓ} (f : ℕ → Option B) (n : ℕ) where
     pub left : first f (below n) ≡ first f (upFrom k (n - k))
 
   pub looked-none : Looked 0
-  unfolding below
-  looked-none = let e : n - 0 ≡ n = omega arith in record { within = zero-le; left = rw e }
+  looked-none = record { within = zero-le; left = ap (first f) (range-start n) }
 
   module _ (k : ℕ) (s : Looked k) where
     pub looked-end : n ≤ k → none ≡ first f (below n)
-    unfolding upFrom first
-    looked-end l = let e : n - k ≡ 0 = omega arith in sym (s .left ∙ rw e)
+    unfolding first
+    looked-end l = sym (s .left ∙ ap (first f) (range-end k n l))
 
     module _ (l : k < n) where
-      next-left : first f (below n) ≡ first f (k ∷ upFrom (suc k) (n - suc k))
-      unfolding upFrom
-      next-left = let e : n - k ≡ suc (n - suc k) = omega arith in s .left ∙ ap (λ (m : ℕ). first f (upFrom k m)) e
-
       pub looked-hit : {b : B} → f k ≡ some b → some b ≡ first f (below n)
-      looked-hit h = sym (next-left ∙ first-here f k _ h)
+      looked-hit h = sym (s .left ∙ ap (first f) (range-step k n l) ∙ first-here f k _ h)
 
       pub looked-next : f k ≡ none → Looked (k + 1)
       looked-next h =
-          let e : k + 1 ≡ suc k = add-one k in
-          record { within = omega arith; left = rw e (next-left ∙ first-later f k _ h) }
+          record { within = omega arith; left = s .left ∙ ap (first f) (range-step k n l) ∙ first-later f k _ h }

@@ -1,10 +1,10 @@
 -- Rows of two words as sets of jobs.
 use Prim.Native.Nat.{ℕ, suc, _+_, _-_, _/_, _%_, _^_, _≤_, _<_, min}
-use native.Mathlib.Nat.{div-eq-of-lt, mod-eq-of-lt, eq-or-lt-of-le}
+use native.Mathlib.Nat.{div-eq-of-lt, mod-eq-of-lt, eq-or-lt-of-le, lt-of-lt-of-le, lt-irrefl, zero-lt-suc}
 use native.Mathlib.Decide.{decLt, ℕ-discrete}
 use native.Mathlib.Omega.{arith}
 use mathlib.Core.Path.{_≡_, refl, sym, ap, ap₂, subst, _∙_}
-use mathlib.Core.List.{List, [], _∷_, map, List·Memᴰ}
+use mathlib.Core.List.{List, [], _∷_, _++_, map, append-nil, List·Memᴰ, List·Memᴰ·head, List·Memᴰ·tail}
 use mathlib.Core.Bool.{Bool, true, false, _&&_, _||_, not}
 use mathlib.Core.Logic.{_⊎_, inl, inr, ⊎-elim}
 use mir.Syntax.{w64}
@@ -15,9 +15,9 @@ use lib.Bits.{bitAnd, bitOr, or-add-and, and-le-l, and-le-r}
 use lib.Count.{trailingZeros, ones, ones-le}
 use borrow.Author.Tests.{lt-ltb, le-ltb, eq-eqb, ne-eqb, ltb-true, eqb-true}
 use Rattle.poset.specs.Lists.{any, keep, upFrom, below}
-use Rattle.poset.proofs.Laws.{clash, same-test, any-hit, any-found, any-none, keep-yes, keep-not, below-mem, mem-below, mem-upFrom}
+use Rattle.poset.proofs.Laws.{clash, false-unless, same-test, any-hit, any-found, any-miss, any-none, keep-yes, keep-not, keep-mem, below-mem, mem-below, mem-upFrom}
 use Rattle.relation.specs.Table.{bit, has, members, Least}
-use Rattle.relation.proofs.Lists.{and-true, and-false, and-comm, keep-append, keep-agree, keep-shift, below-add, any-after, keep-from}
+use Rattle.relation.proofs.Lists.{and-true, and-false, and-comm, keep-append, keep-none, keep-agree, keep-shift, below-add, any-after, keep-from}
 use Rattle.relation.proofs.Words.{bit-and, bit-or, bit-complement, bit-zero, bit-power, bit-ones, Lowest, lowest, ones-count}
 
 -- what a row has, by its words
@@ -289,3 +289,28 @@ members-step s t z h rest =
 
     gone : has t z ≡ false
     gone = rest z ∙ ap (λ (b : Bool). has s z && b) (any-none (has s) (below z) (λ i l. h .least i (mem-below z l))) ∙ and-false (has s z)
+
+pub members-end : (s : List ℕ) → any (has s) (below 128) ≡ false → members s ≡ []
+unfolding members
+members-end s h = keep-none (has s) (below 128) (λ v m. any-miss (has s) (below 128) h m)
+
+-- the members of a row that has jobs below n alone
+pub members-below : (n : ℕ) (s : List ℕ) → n ≤ 128 → ((v : ℕ) → has s v ≡ true → v < n) → keep (has s) (below n) ≡ members s
+unfolding members
+members-below n s l h =
+    let e : n + (128 - n) ≡ 128 = omega arith in
+    sym (ap (λ (m : ℕ). keep (has s) (below m)) (sym e) ∙ ap (keep (has s)) (below-add n (128 - n))
+    ∙ keep-append (has s) (below n) (upFrom n (128 - n)) ∙ ap (λ zs. keep (has s) (below n) ++ zs) beyond ∙ append-nil _)
+  where
+    beyond : keep (has s) (upFrom n (128 - n)) ≡ []
+    beyond =
+        keep-none (has s) (upFrom n (128 - n)) λ v m.
+        false-unless _ λ e. lt-irrefl v (lt-of-lt-of-le (h v e) (mem-upFrom n (128 - n) m .0))
+
+pub members-some : (s : List ℕ) (z : ℕ) → Least s z → 0 < length (members s)
+unfolding members
+members-some s z h = some (keep-mem (has s) (below-mem (h .small)) (h .member))
+  where
+    some : {x : ℕ} {xs : List ℕ} → List·Memᴰ x xs → 0 < length xs
+    some (List·Memᴰ·head {xs = xs} e) = zero-lt-suc (length xs)
+    some (List·Memᴰ·tail {xs = xs} m) = zero-lt-suc (length xs)

@@ -9,12 +9,12 @@ use mathlib.Core.List.{List, []}
 use mathlib.Core.Bool.{Bool, false, _&&_, _||_}
 use mathlib.Core.Logic.{⊎-elim}
 use lib.ListN.{length, getD, set, length-set}
-use lib.Seq.{getD-set-same, getD-set-other}
 use Rattle.poset.specs.Order.{via}
 use Rattle.poset.proofs.Laws.{false-unless}
 use Rattle.poset.proofs.Closure.{via-step, via-ind}
 use Rattle.relation.specs.Table.{has, holds, Inside}
 use Rattle.relation.proofs.Lists.{or-false}
+use Rattle.relation.proofs.Tables.{row-here, row-there}
 
 -- a pass through k that has come to row i
 pub record Passed (t₀ t : List (List ℕ)) (k n i : ℕ) : Type 0 where
@@ -51,11 +51,11 @@ module _ (t₀ : List (List ℕ)) (k n : ℕ) where
       where
         here : (v : ℕ) → holds (set t i row) i v ≡ (holds t₀ i v || (holds t₀ i k && holds t₀ k v))
         here v =
-            ap (λ s. has s v) (getD-set-same t i row [] (rw (p .rows) (omega arith))) ∙ h v
+            row-here t i row (rw (p .rows) (omega arith)) v ∙ h v
             ∙ ap₂ (λ b c. b || c) (p .left i v (omega arith)) (ap₂ (λ b c. b && c) (e ∙ p .left i k (omega arith)) (a v))
 
         there : (u v : ℕ) → (u ≡ i → ⊥) → holds (set t i row) u v ≡ holds t u v
-        there u v d = ap (λ s. has s v) (getD-set-other t i u row [] d)
+        there = row-there t i row
 
 -- the closure of what is inside is inside
 pub closure-inside : (n : ℕ) (t r : List (List ℕ)) (k : ℕ) → Inside n t → ((u v : ℕ) → holds r u v ≡ via (holds t) k u v) → Inside n r

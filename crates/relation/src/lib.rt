@@ -1,6 +1,7 @@
 //! Relations on at most 128 jobs as tables of bits: from arcs to the closure, its searches and its reduction.
 pub mod arcs;
 pub mod order;
+pub mod reduction;
 pub mod set;
 
 // Where a search found what it looked for.

@@ -97,7 +97,7 @@ pub fn without_smallest(s: [u64; 2]) -> [u64; 2]
 
 // How many members there are.
 pub fn size(s: [u64; 2]) -> usize
-    ensures { λ r. ⌜ r ≡ length (members s) ⌝ }
+    ensures { λ r. ⌜ (r ≡ length (members s)) × (r ≤ 128) ⌝ }
 {
     (u64::count_ones(s[0]) + u64::count_ones(s[1])) as usize
 }

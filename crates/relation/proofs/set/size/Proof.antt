@@ -20,7 +20,7 @@ cast-result : tie.Need-cast-result
 cast-result c = omega (arith, size-small (c .args .t1) (row c))
 
 returns : tie.Need-returns
-returns c = size (c .args .t1) (row c)
+returns c = (size (c .args .t1) (row c), size-small (c .args .t1) (row c))
 
 pub size-spec : {M : Type 1} → statement M
 size-spec =
