@@ -6,3 +6,4 @@ pub mod Flat
 pub mod Warshall
 pub mod Covers
 pub mod Listing
+pub mod Chain

@@ -18,7 +18,7 @@ use Rattle.poset.specs.Lists.{any, keep, upFrom, below}
 use Rattle.poset.proofs.Laws.{clash, false-unless, same-test, any-hit, any-found, any-miss, any-none, keep-yes, keep-not, keep-mem, below-mem, mem-below, mem-upFrom}
 use Rattle.relation.specs.Table.{bit, has, members, Least}
 use Rattle.relation.proofs.Lists.{and-true, and-false, and-comm, keep-append, keep-none, keep-agree, keep-shift, below-add, any-after, keep-from}
-use Rattle.relation.proofs.Words.{bit-and, bit-or, bit-complement, bit-zero, bit-power, bit-ones, Lowest, lowest, ones-count}
+use Rattle.relation.proofs.Words.{bit-tested, bit-and, bit-or, bit-complement, bit-zero, bit-power, bit-ones, Lowest, lowest, ones-count}
 
 -- what a row has, by its words
 
@@ -38,6 +38,19 @@ unfolding has
 has-beyond s v n l =
     let q : length s ≤ v / 64 = omega arith in
     ap (λ (w : ℕ). bit w (v % 64)) (List·getD-eq-default s 0 q) ∙ bit-zero (v % 64)
+
+-- a test of a job's bit in its word
+pub has-tested
+    : (s : List ℕ) (v w : ℕ) → v < 128 → ((v < 64) × (w ≡ getD s 0 0)) ⊎ ((64 ≤ v) × (w ≡ getD s 1 0))
+    → eqb (bitAnd (w / 2 ^ (v % 64)) 1) 1 ≡ has s v
+unfolding has
+has-tested s v w l h = bit-tested w (v % 64) ∙ ap (λ (x : ℕ). bit x (v % 64)) (⊎-elim low high h)
+  where
+    low : (v < 64) × (w ≡ getD s 0 0) → w ≡ getD s (v / 64) 0
+    low p = let q : 0 ≡ v / 64 = omega arith in p .1 ∙ ap (λ (k : ℕ). getD s k 0) q
+
+    high : (64 ≤ v) × (w ≡ getD s 1 0) → w ≡ getD s (v / 64) 0
+    high p = let q : 1 ≡ v / 64 = omega arith in p .1 ∙ ap (λ (k : ℕ). getD s k 0) q
 
 -- what holds of the bits of both words, and from 128 on, holds of every job
 pub job-ind : (P : ℕ → Type 0) → ((i : ℕ) → i < 64 → P i) → ((i : ℕ) → i < 64 → P (64 + i)) → ((v : ℕ) → 128 ≤ v → P v) → (v : ℕ) → P v

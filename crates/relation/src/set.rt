@@ -11,7 +11,8 @@ pub fn contains(s: [u64; 2], v: usize) -> bool
     requires { ⌜ v < 128 ⌝ }
     ensures { λ r. ⌜ r ≡ has s v ⌝ }
 {
-    s[v / 64] >> (v % 64) & 1 == 1
+    let word = if v < 64 { s[0] } else { s[1] };
+    word >> (v % 64) & 1 == 1
 }
 
 pub fn union(a: [u64; 2], b: [u64; 2]) -> [u64; 2]

@@ -1,22 +1,28 @@
+use mathlib.Core.Logic.{inl, inr, ⊎-elim}
+use Rattle.relation.proofs.Sets.{has-tested}
 use borrow.Author.Needs.{needs}
-use Prim.Native.Nat.{_%_}
-use Rattle.relation.specs.Table.{has}
-use Rattle.relation.proofs.Words.{bit-tested}
 use Rattle.relation.proofs.set.contains.Statement.{statement}
 use Rattle.relation.proofs.set.contains.Tie as tie
+use Rattle.relation.proofs.set.contains.Reads as reads
+use Rattle.relation.proofs.set.contains.Lts as lts
 
-mul-result : tie.Need-mul-result
-mul-result c = search needs
+-- src/set.rt:14:28
+array-read-word : tie.Need-array-read-word
+array-read-word c = search needs
 
-array-read-result : tie.Need-array-read-result
-array-read-result c = search needs
+-- src/set.rt:14:42
+array-read-word-2 : tie.Need-array-read-word-2
+array-read-word-2 c = search needs
 
+-- src/set.rt:15:5
 shr-result : tie.Need-shr-result
 shr-result c = search needs
 
+-- src/set.rt:10:1
 returns : tie.Need-returns
-unfolding has
-returns c = bit-tested _ (c .args .v % 64)
+returns c = 
+    let a = c .before .before .args in
+    has-tested (a .t1) (a .v) (c .before .if1 .word) (search needs) (⊎-elim (λ w. inl (w .0 .taken, w .1)) (λ w. inr (w .0 .left, w .1)) (c .before .if1 .came))
 
 pub contains-spec : {M : Type 1} → statement M
-contains-spec = tie.close (tie.spec mul-result array-read-result shr-result returns)
+contains-spec = tie.close (tie.spec array-read-word array-read-word-2 shr-result returns)
