@@ -1,18 +1,17 @@
 -- What each step gives the next: from arcs that are checked to their table, its closure and its reduction.
-use Prim.Native.Nat.{ℕ, suc, _<_}
+use Prim.Native.Nat.{ℕ, suc}
 use mathlib.Core.Path.{_≡_, sym, ap, fun-ext, _∙_}
-use mathlib.Core.List.{List, [], _∷_, List·Memᴰ, List·Memᴰ·head, List·Memᴰ·tail, List·Memᴰ·not-nil}
-use mathlib.Core.Bool.{Bool, true, false, _||_}
+use mathlib.Core.List.{List, List·Memᴰ, List·Memᴰ·head, List·Memᴰ·tail}
+use mathlib.Core.Bool.{Bool, true, false}
 use mathlib.Core.Option.{none}
 use mathlib.Core.Logic.{⊎-elim}
 use borrow.Author.Tests.{leb-false}
 use lib.Dec.{leb}
-use Rattle.poset.specs.Order.{Arc, Rel, Within, arc, via, before, covers, Strict, firstOnCycle}
+use Rattle.poset.specs.Order.{Arc, Within, arc, via, before, covers, Strict, firstOnCycle}
 use Rattle.poset.proofs.Laws.{decided, clash, false-unless, found-clash, and-left, or-left, or-right}
 use Rattle.poset.proofs.Closure.{arc-mem, before-is-strict}
 use Rattle.relation.specs.Table.{holds, Inside}
 use Rattle.relation.specs.Arcs.{placeFrom, place, outside}
-use Rattle.relation.proofs.Warshall.{closure-inside}
 
 -- nothing passes a test that has no place
 place-none : (p : Arc → Bool) (k : ℕ) {a : Arc} {arcs : List Arc} → List·Memᴰ a arcs → placeFrom k p arcs ≡ none → p a ≡ false

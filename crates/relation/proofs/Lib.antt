@@ -7,3 +7,5 @@ pub mod Warshall
 pub mod Covers
 pub mod Listing
 pub mod Chain
+pub mod Sought
+pub mod Mirror

@@ -161,9 +161,6 @@ module _ (u at : ℕ) (row before : List ℕ) where
     lined-fits v least h = omega (arith, c .room, c .size, members-some rest v least)
 
     module _ (v : ℕ) (least : Least rest v) (others : List ℕ) (without : (x : ℕ) → has others x ≡ (has rest x && any (has rest) (below x))) where
-      pub lined-less : length (members others) < length (members rest)
-      lined-less = omega (arith, ap length (members-step rest others v least without))
-
       pub lined-next : Lined u at row before (set (set area k u) (k + 1) v) (k + 2) others
       unfolding arcBytes flatMap
       lined-next =

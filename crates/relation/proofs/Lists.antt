@@ -5,13 +5,14 @@ use native.Mathlib.Decide.{decLt}
 use native.Mathlib.Omega.{arith}
 use mathlib.Core.Path.{_≡_, refl, sym, ap, _∙_}
 use mathlib.Core.List.{List, [], _∷_, _++_, map, List·Memᴰ, List·Memᴰ·head, List·Memᴰ·tail}
-use mathlib.Core.Bool.{Bool, true, false, _&&_, _||_}
+use mathlib.Core.Bool.{Bool, true, false, _&&_, _||_, not}
 use mathlib.Core.Option.{Option, none, some}
 use mathlib.Core.Logic.{⊎-elim}
 use lib.Dec.{ltb}
 use lib.ListN.{length}
 use borrow.Author.Tests.{lt-ltb, le-ltb}
 use Rattle.poset.specs.Lists.{any, keep, upFrom, below, first}
+use Rattle.poset.proofs.Laws.{clash, not-true, not-false}
 use Rattle.poset.proofs.Laws.{decided, any-hit, any-none, keep-yes, keep-not, first-here, first-later, found-or-none}
 use Rattle.poset.proofs.Laws.{below-mem, mem-below}
 
@@ -26,6 +27,14 @@ and-false false = refl
 pub and-comm : (a b : Bool) → (a && b) ≡ (b && a)
 and-comm true b = sym (and-true b)
 and-comm false b = sym (and-false b)
+
+pub neither : (a b : Bool) → not (a || b) ≡ true → (a ≡ false) × (b ≡ false)
+neither true b h = absurd (clash h refl)
+neither false b h = (refl, not-true b h)
+
+pub not-either : (a b : Bool) → a ≡ false → b ≡ false → not (a || b) ≡ true
+not-either true b p q = absurd (clash refl p)
+not-either false b p q = not-false b q
 
 pub or-false : (b : Bool) → (b || false) ≡ b
 or-false true = refl
@@ -84,20 +93,24 @@ module _ {ℓ} {A : Type ℓ} (p : A → Bool) where
         (decided (p x))
 
   -- a search that finds nothing where the test fails
-  module _ {κ} {B : Type κ} (f : A → Option B) (h : (x : A) → p x ≡ false → f x ≡ none) where
-    pub first-keep : (xs : List A) → first f (keep p xs) ≡ first f xs
+  module _ {κ} {B : Type κ} (f : A → Option B) where
+    pub first-keep : (xs : List A) → ((x : A) → List·Memᴰ x xs → p x ≡ false → f x ≡ none) → first f (keep p xs) ≡ first f xs
     unfolding keep
-    first-keep [] = refl
-    first-keep (x ∷ xs) =
+    first-keep [] h = refl
+    first-keep (x ∷ xs) h =
         ⊎-elim
         (λ (e : p x ≡ true).
         rw (keep-yes p x xs e)
         (⊎-elim
         (λ s. first-here f x (keep p xs) (s .1) ∙ sym (first-here f x xs (s .1)))
-        (λ (o : f x ≡ none). first-later f x (keep p xs) o ∙ first-keep xs ∙ sym (first-later f x xs o))
+        (λ (o : f x ≡ none). first-later f x (keep p xs) o ∙ first-keep xs rest ∙ sym (first-later f x xs o))
         (found-or-none (f x))))
-        (λ (e : p x ≡ false). rw (keep-not p x xs e) (first-keep xs ∙ sym (first-later f x xs (h x e))))
+        (λ (e : p x ≡ false).
+        rw (keep-not p x xs e) (first-keep xs rest ∙ sym (first-later f x xs (h x (List·Memᴰ·head refl) e))))
         (decided (p x))
+      where
+        rest : (y : A) → List·Memᴰ y xs → p y ≡ false → f y ≡ none
+        rest y m = h y (List·Memᴰ·tail m)
 
 -- ranges
 

@@ -39,6 +39,9 @@ has-beyond s v n l =
     let q : length s ≤ v / 64 = omega arith in
     ap (λ (w : ℕ). bit w (v % 64)) (List·getD-eq-default s 0 q) ∙ bit-zero (v % 64)
 
+pub has-small : (s : List ℕ) → length s ≡ 2 → (v : ℕ) → has s v ≡ true → v < 128
+has-small s n v e = elim (decLt v 128) [ yes l ↦ l | no l ↦ absurd (clash e (has-beyond s v n (omega arith))) ]
+
 -- a test of a job's bit in its word
 pub has-tested
     : (s : List ℕ) (v w : ℕ) → v < 128 → ((v < 64) × (w ≡ getD s 0 0)) ⊎ ((64 ≤ v) × (w ≡ getD s 1 0))
@@ -154,6 +157,12 @@ after-least s z h v = by (decLt z v) ∙ ap (λ (b : Bool). has s v && b) (sym (
     by : Dec (z < v) → (has s v && not (eqb v z)) ≡ (has s v && ltb z v)
     by (yes l) = ap (λ (b : Bool). has s v && b) (ap not (ne-eqb v z (λ e. omega arith)) ∙ sym (lt-ltb z v l))
     by (no l) = before (eq-or-lt-of-le (omega arith))
+
+-- a set without its smallest member
+pub without-least
+    : (s t : List ℕ) (z : ℕ) → Least s z → ((v : ℕ) → has t v ≡ (has s v && any (has s) (below v)))
+    → (v : ℕ) → has t v ≡ (has s v && not (eqb v z))
+without-least s t z h rest v = rest v ∙ sym (after-least s z h v)
 
 module _ (s : List ℕ) (r : Row s) where
   -- a word that is not 0 has its lowest bit
@@ -280,28 +289,43 @@ module _ (s : List ℕ) (r : Row s) where
           ∙ length-map (keep (bit (getD s 1 0)) (below 64)) (λ i. 64 + i)
 
 -- the members, one after the other
+
+members-from : (p : ℕ → Bool) (z : ℕ) → z < 128 → ((i : ℕ) → i < z → p i ≡ false) → keep p (below 128) ≡ keep p (z ∷ upFrom (suc z) (127 - z))
+unfolding upFrom
+members-from p z l clear =
+    let e : 128 ≡ z + suc (127 - z) = omega arith in
+    ap (λ (n : ℕ). keep p (below n)) e ∙ keep-from p z clear (suc (127 - z))
+
+pub members-head : (s : List ℕ) (z : ℕ) → Least s z → members s ≡ z ∷ keep (has s) (upFrom (suc z) (127 - z))
+unfolding members
+members-head s z h = members-from (has s) z (h .small) (h .least) ∙ keep-yes (has s) z (upFrom (suc z) (127 - z)) (h .member)
+
 pub members-step
     : (s t : List ℕ) (z : ℕ) → Least s z → ((v : ℕ) → has t v ≡ (has s v && any (has s) (below v))) → members s ≡ z ∷ members t
-unfolding members upFrom
+unfolding members
 members-step s t z h rest =
-    from (has s) (h .least) ∙ keep-yes (has s) z (upFrom (suc z) m) (h .member)
-    ∙ ap {B = List ℕ} (λ zs. z ∷ zs) (keep-agree (has s) (has t) (upFrom (suc z) m) later ∙ sym (from (has t) clear ∙ keep-not (has t) z (upFrom (suc z) m) gone))
+    members-head s z h
+    ∙ ap {B = List ℕ} (λ zs. z ∷ zs)
+    (keep-agree (has s) (has t) above later ∙ sym (members-from (has t) z (h .small) clear ∙ keep-not (has t) z above gone))
   where
-    m : ℕ
-    m = 127 - z
+    above : List ℕ
+    above = upFrom (suc z) (127 - z)
 
-    from : (p : ℕ → Bool) → ((i : ℕ) → i < z → p i ≡ false) → keep p (below 128) ≡ keep p (upFrom z (suc m))
-    from p c = let e : 128 ≡ z + suc m = omega (arith, h .small) in ap (λ (n : ℕ). keep p (below n)) e ∙ keep-from p z c (suc m)
-
-    later : (v : ℕ) → List·Memᴰ v (upFrom (suc z) m) → has s v ≡ has t v
+    later : (v : ℕ) → List·Memᴰ v above → has s v ≡ has t v
     later v l =
-        sym (rest v ∙ ap (λ (b : Bool). has s v && b) (any-hit (has s) (below-mem {n = v} (mem-upFrom (suc z) m l .0)) (h .member)) ∙ and-true (has s v))
+        let some = any-hit (has s) (below-mem {n = v} (mem-upFrom (suc z) (127 - z) l .0)) (h .member) in
+        sym (rest v ∙ ap (λ (b : Bool). has s v && b) some ∙ and-true (has s v))
 
     clear : (i : ℕ) → i < z → has t i ≡ false
     clear i l = rest i ∙ ap (λ (b : Bool). b && any (has s) (below i)) (h .least i l)
 
     gone : has t z ≡ false
-    gone = rest z ∙ ap (λ (b : Bool). has s z && b) (any-none (has s) (below z) (λ i l. h .least i (mem-below z l))) ∙ and-false (has s z)
+    gone =
+        rest z ∙ ap (λ (b : Bool). has s z && b) (any-none (has s) (below z) (λ i l. h .least i (mem-below z l))) ∙ and-false (has s z)
+
+pub members-less
+    : (s t : List ℕ) (z : ℕ) → Least s z → ((v : ℕ) → has t v ≡ (has s v && any (has s) (below v))) → length (members t) < length (members s)
+members-less s t z h rest = omega (arith, ap length (members-step s t z h rest))
 
 pub members-end : (s : List ℕ) → any (has s) (below 128) ≡ false → members s ≡ []
 unfolding members

@@ -2,6 +2,7 @@
 pub mod arcs;
 pub mod order;
 pub mod reduction;
+pub mod search;
 pub mod set;
 
 // Where a search found what it looked for.

@@ -2,7 +2,6 @@
 use relation::arcs;
 use relation::order;
 use relation::reduction;
-
 ghost use Prim.Native.Nat.{_*_, _≤_};
 ghost use lib.ListN.{length};
 ghost use Rattle.poset.specs.Order.{Within, Strict, before, reduction};

@@ -1,6 +1,6 @@
 use native.Mathlib.Omega.{arith}
 use mathlib.Core.Path.{_≡_, fun-ext}
-use Rattle.poset.specs.Order.{before, pairsOf, reduction}
+use Rattle.poset.specs.Order.{before, reduction}
 use Rattle.relation.specs.Table.{holds, Inside}
 use Rattle.relation.specs.Arcs.{pairs}
 use Rattle.relation.proofs.Chain.{table-inside, closure-before, reduced-inside}
@@ -8,8 +8,6 @@ use Rattle.relation.proofs.Warshall.{closure-inside}
 use borrow.Author.Needs.{needs}
 use Rattle.relation_bench.proofs.bench_reduce.Statement.{statement}
 use Rattle.relation_bench.proofs.bench_reduce.Tie as tie
-use Rattle.relation_bench.proofs.bench_reduce.Reads as reads
-use Rattle.relation_bench.proofs.bench_reduce.Lts as lts
 use Rattle.relation.proofs.arcs.table_of.Reads as table-of-reads
 use Rattle.relation.proofs.order.closure.Reads as closure-reads
 use Rattle.relation.proofs.reduction.reduced.Reads as reduced-reads
@@ -29,36 +27,34 @@ module _ (c : tie.After-closure) where
       (table-inside (s .args .n) (pairs (s .args .arcs .now)) (c .before .table-of .result) (c .before .table-of .ensures) (s .pre .1 .0))
       (c .closure .ensures)
 
--- src/x:19:33
 table-of-requires : tie.Need-table-of-requires
 table-of-requires c κs = λ a m. let s = c .before .before in let w = s .pre .1 .0 a m in omega (arith, w, s .pre .0)
 
--- src/x:19:9
 closure-requires : tie.Need-closure-requires
-closure-requires c κs = 
+closure-requires c κs =
     let s = c .before .before .before in
     (s .pre .0, table-inside (s .args .n) (pairs (s .args .arcs .now)) (c .table-of .result) (c .table-of .ensures) (s .pre .1 .0))
 
--- src/x:20:18
 reduced-requires : tie.Need-reduced-requires
-reduced-requires c κs = 
+reduced-requires c κs =
     let s = c .before .before .before .before in
     (s .pre .0, (rw (closed-before c) (s .pre .1 .1 .0), closed-inside c))
 
--- src/x:21:5
 write-pairs-requires : tie.Need-write-pairs-requires
 unfolding reduction
-write-pairs-requires c κs = 
+write-pairs-requires c κs =
     let r = c .before .before in
-    let s = r .before .before .before .before .before in
-    (s .pre .0, (reduced-inside (s .args .n) (r .before .closure .result) (r .reduced .result) (closed-inside (r .before)) (r .reduced .ensures),
-    rw (fun-ext (λ u. fun-ext (r .reduced .ensures u)), closed-before (r .before)) (s .pre .1 .1 .1)))
+    let s = r .before .before .before .before .before in (
+      s .pre .0,
+      (
+        reduced-inside (s .args .n) (r .before .closure .result) (r .reduced .result) (closed-inside (r .before)) (r .reduced .ensures),
+        rw (fun-ext (λ u. fun-ext (r .reduced .ensures u)), closed-before (r .before)) (s .pre .1 .1 .1),
+      ),
+    )
 
--- src/x:12:1
 same-length : tie.Need-same-length
 same-length c = search needs
 
--- src/x:12:1
 returns : tie.Need-returns
 returns c = search needs
 

@@ -1,10 +1,11 @@
+use Rattle.relation.proofs.Sets.{members-less}
 use mathlib.Core.Path.{sym, _∙_}
 use lib.ListN.{length-set}
 use Prim.Native.Nat.{_+_, _<_}
 use native.Mathlib.Omega.{arith}
 use lib.ListN.{length}
 use Rattle.relation.specs.Table.{members}
-use Rattle.relation.proofs.Listing.{Lined, lined-none, lined-next, lined-less, lined-fits, lined-end}
+use Rattle.relation.proofs.Listing.{Lined, lined-none, lined-next, lined-fits, lined-end}
 use borrow.Author.Needs.{needs}
 use Rattle.relation.proofs.reduction.write_row.Statement.{statement}
 use Rattle.relation.proofs.reduction.write_row.Tie as tie
@@ -56,10 +57,7 @@ without-smallest-requires : tie.Need-without-smallest-requires Inv-loop μ-loop
 without-smallest-requires c κs = sym (c .before .before .inhabited .ensures) ∙ c .before .if1 .taken
 
 loop-less : tie.Need-loop-less Inv-loop μ-loop
-loop-less c =
-    let l = c .before .before .before .before .loop in
-    let a = c .before .before .before .before .before .before .args in
-    lined-less (a .u) (a .at) (a .row) (a .area .now) (l .area) (l .k) (l .rest) (l .inv) _ (c .before .smallest .ensures) _ (c .without-smallest .ensures)
+loop-less c = members-less (c .before .before .before .before .loop .rest) _ _ (c .before .smallest .ensures) (c .without-smallest .ensures)
 
 loop-again : tie.Need-loop-again Inv-loop μ-loop
 loop-again c =

@@ -3,24 +3,18 @@ use Rattle.relation.proofs.Sets.{has-tested}
 use borrow.Author.Needs.{needs}
 use Rattle.relation.proofs.set.contains.Statement.{statement}
 use Rattle.relation.proofs.set.contains.Tie as tie
-use Rattle.relation.proofs.set.contains.Reads as reads
-use Rattle.relation.proofs.set.contains.Lts as lts
 
--- src/set.rt:14:28
 array-read-word : tie.Need-array-read-word
 array-read-word c = search needs
 
--- src/set.rt:14:42
 array-read-word-2 : tie.Need-array-read-word-2
 array-read-word-2 c = search needs
 
--- src/set.rt:15:5
 shr-result : tie.Need-shr-result
 shr-result c = search needs
 
--- src/set.rt:10:1
 returns : tie.Need-returns
-returns c = 
+returns c =
     let a = c .before .before .args in
     has-tested (a .t1) (a .v) (c .before .if1 .word) (search needs) (⊎-elim (λ w. inl (w .0 .taken, w .1)) (λ w. inr (w .0 .left, w .1)) (c .before .if1 .came))
 

@@ -1,0 +1,76 @@
+use Prim.Native.Nat.{_-_}
+use native.Mathlib.Omega.{arith}
+use mathlib.Core.Path.{sym, ap, _∙_}
+use Rattle.poset.specs.Order.{firstN}
+use Rattle.poset.proofs.Searches.{at-a}
+use Rattle.relation.specs.Table.{holds}
+use Rattle.relation.specs.Arcs.{foundFour}
+use Rattle.relation.proofs.Lists.{Looked, looked-none, looked-hit, looked-next, looked-end}
+use borrow.Author.Needs.{needs}
+use Rattle.relation.proofs.search.first_n.Statement.{statement}
+use Rattle.relation.proofs.search.first_n.Tie as tie
+use Rattle.relation.proofs.search.first_with_a.Reads as first-with-a-reads
+
+abbrev Inv-loop : tie.InvT-loop
+Inv-loop after under n a₀ a = Looked (at-a n (holds after)) n a
+
+abbrev μ-loop : tie.MeasureT-loop
+μ-loop after under n a₀ a = n - a
+
+loop-holds : tie.Need-loop-holds Inv-loop μ-loop
+loop-holds c = looked-none (at-a (c .args .n) (holds (c .args .after .now))) (c .args .n)
+
+first-with-a-requires : tie.Need-first-with-a-requires Inv-loop μ-loop
+first-with-a-requires c κs = let s = c .before .before in ((s .pre .0, search needs), s .pre .1)
+
+enum-told : tie.Need-enum-told Inv-loop μ-loop
+enum-told c = search needs
+
+enum-told-2 : tie.Need-enum-told-2 Inv-loop μ-loop
+enum-told-2 c = search needs
+
+returns : tie.Need-returns Inv-loop μ-loop
+unfolding firstN
+returns c =
+    let w = c .before .before in
+    let l = w .before .before .loop in
+    let s = w .before .before .before in
+    let e = ap foundFour (c .enum-told2 .given .1) in
+    e
+    ∙ looked-hit (at-a (s .args .n) (holds (s .args .after .now))) (s .args .n) (l .a) (l .inv) (search needs) (sym (w .first-with-a .ensures) ∙ e)
+
+add-a : tie.Need-add-a Inv-loop μ-loop
+add-a c = search needs
+
+loop-less : tie.Need-loop-less Inv-loop μ-loop
+loop-less c = omega arith
+
+loop-again : tie.Need-loop-again Inv-loop μ-loop
+loop-again c =
+    let w = c .before .before in
+    let l = w .before .before .loop in
+    let s = w .before .before .before in
+    looked-next (at-a (s .args .n) (holds (s .args .after .now))) (s .args .n) (l .a) (l .inv) (search needs)
+    (sym (w .first-with-a .ensures) ∙ ap foundFour (c .enum-told .given .1))
+
+returns-2 : tie.Need-returns-2 Inv-loop μ-loop
+unfolding firstN
+returns-2 c =
+    let s = c .before .before in
+    looked-end (at-a (s .args .n) (holds (s .args .after .now))) (s .args .n) (c .before .loop .a) (c .before .loop .inv) (c .loop-test .left)
+
+pub first-n-spec : {M : Type 1} → statement M
+first-n-spec =
+    tie.close
+    (tie.spec
+    Inv-loop
+    μ-loop
+    loop-holds
+    first-with-a-requires
+    enum-told
+    enum-told-2
+    returns
+    add-a
+    loop-less
+    loop-again
+    returns-2)
