@@ -6,10 +6,13 @@
 #include <time.h>
 
 void bench_reduce(const uint16_t *arcs, size_t numbers, size_t n, uint8_t *area, size_t room);
+uint64_t bench_order(const uint16_t *arcs, size_t numbers, size_t n);
+uint64_t bench_first_n(const uint16_t *arcs, size_t numbers, size_t n);
 
 typedef struct { uint64_t w[2]; } set;
 static inline void put(set *s, int i) { s->w[i >> 6] |= 1ull << (i & 63); }
 static inline void drop(set *s, int i) { s->w[i >> 6] &= ~(1ull << (i & 63)); }
+static inline set and_(set a, set b) { return (set){{a.w[0] & b.w[0], a.w[1] & b.w[1]}}; }
 static inline set or_(set a, set b) { return (set){{a.w[0] | b.w[0], a.w[1] | b.w[1]}}; }
 static inline set but(set a, set b) { return (set){{a.w[0] & ~b.w[0], a.w[1] & ~b.w[1]}}; }
 static inline int none(set a) { return !(a.w[0] | a.w[1]); }
@@ -39,6 +42,51 @@ __attribute__((noinline)) static void c_reduce(const uint16_t *arcs, size_t numb
     }
 }
 
+// Hacker's Delight, 7-3: a 64 by 64 bit matrix turned in place
+static void turn64(uint64_t m[64]) {
+    uint64_t k = 0x00000000ffffffffull;
+    for (int j = 32; j; j >>= 1, k ^= k << j)
+        for (int i = 0; i < 64; i = (i + j + 1) & ~j) { uint64_t t = ((m[i] >> j) ^ m[i + j]) & k; m[i] ^= t << j; m[i + j] ^= t; }
+}
+static void turn(set *to, const set *from, int n) {
+    uint64_t m[64];
+    memset(to, 0, 128 * sizeof(set));
+    if (n <= 16) { for (int i = 0; i < n; i++) for (int j = 0; j < n; j++) to[j].w[0] |= (from[i].w[0] >> j & 1) << i; return; }
+    int k = (n + 63) / 64;
+    for (int r = 0; r < k; r++) for (int c = 0; c < k; c++) {
+        for (int i = 0; i < 64; i++) m[i] = from[64 * r + i].w[c];
+        turn64(m);
+        for (int i = 0; i < 64; i++) to[64 * c + i].w[r] = m[i];
+    }
+}
+__attribute__((noinline)) static uint64_t c_order(const uint16_t *arcs, size_t numbers, size_t n) {
+    set after[128], under[128];
+    closed(arcs, numbers, n, after);
+    turn(under, after, n);
+    return under[127].w[0];
+}
+__attribute__((noinline)) static uint64_t c_first_n(const uint16_t *arcs, size_t numbers, size_t n) {
+    set after[128], under[128], all = {{0, 0}};
+    closed(arcs, numbers, n, after);
+    turn(under, after, n);
+    for (int i = 0; i < (int)n; i++) put(&all, i);
+    for (int x = 0; x < (int)n; x++) {
+        set ys = but(but(all, after[x]), under[x]);
+        EACH(y, ys) {
+            if (y == x) continue;
+            set ds = but(but(after[y], after[x]), under[x]);
+            if (none(ds)) continue;
+            set cs = and_(after[x], after[y]);
+            EACH(c, cs) {
+                set e = but(but(ds, after[c]), under[c]);
+                drop(&e, c); drop(&e, x);
+                if (!none(e)) return x + 256ull * y + 65536ull * c + 16777216ull * low(e);
+            }
+        }
+    }
+    return 1ull << 32;
+}
+
 static uint16_t arcs[8192]; static size_t numbers;
 static void arc(int u, int v) { if (numbers < 8192) { arcs[numbers++] = u; arcs[numbers++] = v; } }
 
@@ -52,12 +100,37 @@ static double reduce_time(reducer *f, uint8_t *area, int rounds) {
 }
 static void race_reduce(const char *name) {
     double best_r = 1e18, best_c = 1e18;
-    for (int turn = 0; turn < 40; turn++) {
-        double r = reduce_time(bench_reduce, mine, 250), c = reduce_time(c_reduce, theirs, 250);
+    for (int turn = 0; turn < 1000; turn++) {
+        double r = reduce_time(bench_reduce, mine, 5), c = reduce_time(c_reduce, theirs, 5);
         if (r < best_r) best_r = r;
         if (c < best_c) best_c = c;
     }
     printf("%-34s rattle %8.0f ns   C %8.0f ns   ratio %.2f%s\n", name, best_r, best_c, best_r / best_c, memcmp(mine, theirs, 8192) ? "   DIFFER" : "");
+}
+
+typedef uint64_t searcher(const uint16_t *, size_t, size_t);
+static uint64_t answer;
+static double search_time(searcher *f, int n, int rounds) {
+    double s = now();
+    for (int i = 0; i < rounds; i++) { answer = f(arcs, numbers, n); __asm__ volatile("" ::: "memory"); }
+    return (now() - s) / rounds;
+}
+// the whole, and what is left of it once closure and transposed table are taken off
+static void race_first_n(const char *name, int n) {
+    double r = 1e18, ro = 1e18, c = 1e18, co = 1e18; uint64_t mine = 0, theirs = 0;
+    int rounds = n < 16 ? 1000 : 2;
+    for (int turn = 0; turn < 1000; turn++) {
+        double t;
+        t = search_time(bench_order, n, rounds); if (t < ro) ro = t;
+        t = search_time(bench_first_n, n, rounds); if (t < r) r = t;
+        mine = answer;
+        t = search_time(c_order, n, rounds); if (t < co) co = t;
+        t = search_time(c_first_n, n, rounds); if (t < c) c = t;
+        theirs = answer;
+    }
+    printf("%-34s rattle %8.0f ns   C %8.0f ns   ratio %.2f%s\n", name, r, c, r / c, mine != theirs ? "   DIFFER" : "");
+    printf("  its closure and transposed table rattle %8.0f ns   C %8.0f ns   ratio %.2f\n", ro, co, ro / co);
+    printf("  its search alone                 rattle %8.0f ns   C %8.0f ns   ratio %.2f   (N %08lx)\n", r - ro, c - co, (r - ro) / (c - co), (unsigned long)mine);
 }
 
 int main(void) {
@@ -66,4 +139,12 @@ int main(void) {
     numbers = 0;
     for (int u = 0; u < 64; u++) for (int v = 64; v < 128; v++) arc(u, v);
     race_reduce("closure and reduction, bipartite");
+    numbers = 0;
+    // (A beside B then D) then C, and beside it all an N on the last four jobs: all that is tried before it fails late
+    for (int i = 0; i < 31; i++) for (int j = 0; j < 31; j++) { arc(i, 93 + j); arc(31 + i, 62 + j); arc(62 + i, 93 + j); }
+    arc(124, 126); arc(125, 126); arc(125, 127);
+    race_first_n("first N, the last one", 128);
+    numbers = 0;
+    arc(0, 2); arc(1, 2); arc(1, 3);
+    race_first_n("first N of five jobs", 5);
 }

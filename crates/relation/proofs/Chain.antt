@@ -11,6 +11,7 @@ use Rattle.poset.specs.Order.{Arc, Within, arc, via, before, covers, Strict, fi
 use Rattle.poset.proofs.Laws.{decided, clash, false-unless, found-clash, and-left, or-left, or-right}
 use Rattle.poset.proofs.Closure.{arc-mem, before-is-strict}
 use Rattle.relation.specs.Table.{holds, Inside}
+use Rattle.relation.proofs.Covers.{covers-inside}
 use Rattle.relation.specs.Arcs.{placeFrom, place, outside}
 
 -- nothing passes a test that has no place
@@ -48,5 +49,4 @@ module _ (n : ℕ) (arcs : List Arc) (t : List (List ℕ)) (table : (u v : ℕ) 
 
 -- the reduction of what is inside is inside
 pub reduced-inside : (n : ℕ) (t r : List (List ℕ)) → Inside n t → ((u v : ℕ) → holds r u v ≡ covers n (holds t) u v) → Inside n r
-unfolding covers
-reduced-inside n t r inside h u v e = inside u v (and-left (holds t u v) _ (sym (h u v) ∙ e))
+reduced-inside n t r inside h u v e = covers-inside t n inside u v (sym (h u v) ∙ e)

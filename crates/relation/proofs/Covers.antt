@@ -14,7 +14,6 @@ use Rattle.poset.proofs.Laws.{decided, clash, false-unless, same-test, and-left
 use Rattle.poset.proofs.Laws.{any-hit, any-found, any-miss, below-mem, mem-below}
 use Rattle.relation.specs.Table.{has, holds, members, Least, Inside}
 use Rattle.relation.proofs.Lists.{keep-fewer}
-use Rattle.relation.proofs.Tables.{row-here, row-there, holds-blank}
 use Rattle.relation.proofs.Sets.{members-step}
 
 module _ (n : ℕ) (r : Rel) (u : ℕ) where
@@ -105,43 +104,14 @@ module _ (n : ℕ) (r : Rel) (u : ℕ) (strict : Strict n r) (inside : (u v : �
             rw (members-step rest others w least without)
             (suc-le-suc (keep-fewer (has rest′) (has others) (λ v e. and-left _ _ (sym (left v) ∙ e)) (below 128)))
 
--- the rows of the reduction, one after the other
-pub record Thinned (t r : List (List ℕ)) (n i : ℕ) : Type 0 where
-  pub within : i ≤ n
-  pub rows : length r ≡ 128
-  pub done : (u v : ℕ) → u < i → holds r u v ≡ covers n (holds t) u v
-  pub left : (u v : ℕ) → i ≤ u → holds r u v ≡ false
-
+-- the rows of the reduction
 module _ (t : List (List ℕ)) (n : ℕ) where
-  pub thinned-none : Thinned t (replicate 128 (replicate 2 0)) n 0
-  thinned-none =
-      record { within = zero-le; rows = refl; done = λ u v l. absurd (omega arith); left = λ u v l. holds-blank 128 u v }
+  pub covers-inside : Inside n t → (u v : ℕ) → covers n (holds t) u v ≡ true → (u < n) × (v < n)
+  unfolding covers
+  covers-inside inside u v e = inside u v (and-left (holds t u v) _ e)
 
-  module _ (r : List (List ℕ)) (i : ℕ) (p : Thinned t r n i) where
-    pub thinned-end : n ≤ i → Inside n t → (u v : ℕ) → holds r u v ≡ covers n (holds t) u v
-    unfolding covers
-    thinned-end l inside u v = by (decLt u n)
-      where
-        by : Dec (u < n) → holds r u v ≡ covers n (holds t) u v
-        by (yes h) = p .done u v (omega arith)
-        by (no h) =
-            let e : holds t u v ≡ false = false-unless _ (λ d. h (inside u v d .0)) in
-            p .left u v (omega arith) ∙ sym (ap (λ b. b && not (between n (holds t) u v)) e)
-
-    pub thinned-next
-        : i < n → n ≤ 128 → (row far : List ℕ) → ((v : ℕ) → has row v ≡ (has (getD t i []) v && not (has far v)))
-        → ((v : ℕ) → has far v ≡ between n (holds t) i v) → Thinned t (set r i row) n (i + 1)
-    unfolding covers holds
-    thinned-next l m row far h f =
-        record {
-          within = omega arith;
-          rows = length-set r i row ∙ p .rows;
-          done = λ u v d. ⊎-elim (λ (c : u ≡ i). rw c (here v)) (λ (c : u < i). there u v (λ c′. omega arith) ∙ p .done u v c) (eq-or-lt-of-le (omega arith));
-          left = λ u v d. there u v (λ c. omega arith) ∙ p .left u v (omega arith);
-        }
-      where
-        here : (v : ℕ) → holds (set r i row) i v ≡ covers n (holds t) i v
-        here v = row-here r i row (rw (p .rows) (omega arith)) v ∙ h v ∙ ap (λ b. has (getD t i []) v && not b) (f v)
-
-        there : (u v : ℕ) → (u ≡ i → ⊥) → holds (set r i row) u v ≡ holds r u v
-        there = row-there r i row
+  pub covers-row
+      : (u : ℕ) (row far : List ℕ) → ((v : ℕ) → has row v ≡ (has (getD t u []) v && not (has far v)))
+      → ((v : ℕ) → has far v ≡ between n (holds t) u v) → (v : ℕ) → has row v ≡ covers n (holds t) u v
+  unfolding covers holds
+  covers-row u row far h f v = h v ∙ ap (λ b. has (getD t u []) v && not b) (f v)

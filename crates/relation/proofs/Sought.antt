@@ -9,7 +9,7 @@ use mathlib.Core.Logic.{⊎-elim}
 use lib.Dec.{eqb, ltb}
 use borrow.Author.Tests.{lt-ltb, ltb-true, eq-eqb}
 use Rattle.poset.specs.Lists.{any, below, first, onlyIf}
-use Rattle.poset.specs.Order.{Rel, incomparable, isN}
+use Rattle.poset.specs.Order.{Rel, comparable, incomparable, isN}
 use Rattle.poset.proofs.Laws.{decided, clash, false-unless, same-test, and-left, and-right, and-intro, not-true, not-false, eqb-differ}
 use Rattle.poset.proofs.Laws.{any-miss, below-mem, mem-below, first-here, first-later, only-if-none}
 use Rattle.poset.proofs.Standing.{Free, free, is-free}
@@ -54,10 +54,10 @@ module _ (r : Rel) (a b : ℕ) where
 
   -- job d makes an N with a, b and c: it is after b, and incomparable to a and to c
   abbrev pub fourth : ℕ → ℕ → Bool
-  fourth c d = (r b d && not (r a d || r d a)) && not (r c d || r d c)
+  fourth c d = (r b d && not (comparable r a d)) && not (comparable r c d)
 
   n-fourth : (c d : ℕ) → incomparable r a b ≡ true → (r a c && r b c) ≡ true → isN r a b c d ≡ fourth c d
-  unfolding isN
+  unfolding isN comparable
   n-fourth c d apart above = same-test _ _ forth back
     where
       ac : r a c ≡ true
@@ -125,13 +125,13 @@ module _ (n : ℕ) (r : Rel) (a b : ℕ) where
   module _ (l : n ≤ 128) (inside : (u v : ℕ) → r u v ≡ true → (u < n) × (v < n)) (apart : incomparable r a b ≡ true) where
     -- no job is after b and incomparable to a
     pub no-fourth
-        : (ds : List ℕ) → ((d : ℕ) → has ds d ≡ (r b d && not (r a d || r d a))) → any (has ds) (below 128) ≡ false → none ≡ at-b n r a b
+        : (ds : List ℕ) → ((d : ℕ) → has ds d ≡ (r b d && not (comparable r a d))) → any (has ds) (below 128) ≡ false → none ≡ at-b n r a b
     no-fourth ds h e = sym (none-below (at-c n r a b) n .1 λ c _. ⊎-elim (λ t. with-c c t) (above-none c) (decided (r a c && r b c)))
       where
         with-c : (c : ℕ) → (r a c && r b c) ≡ true → at-c n r a b c ≡ none
         with-c c t =
             none-below (at-d n r a b c) n .1 λ d m.
-            only-if-none _ _ .1 (n-fourth r a b c d apart t ∙ ap (λ q. q && not (r c d || r d c)) (sym (h d) ∙ any-miss (has ds) (below 128) e (below-mem (lt-of-lt-of-le m l))))
+            only-if-none _ _ .1 (n-fourth r a b c d apart t ∙ ap (λ q. q && not (comparable r c d)) (sym (h d) ∙ any-miss (has ds) (below 128) e (below-mem (lt-of-lt-of-le m l))))
 
     pub above-first : (cs : List ℕ) → ((c : ℕ) → has cs c ≡ (r a c && r b c)) → Above n r a b cs
     above-first cs h =
@@ -165,7 +165,8 @@ pub record Beside (n : ℕ) (r : Rel) (a : ℕ) (bs : List ℕ) : Type 0 where
   pub beside : (b : ℕ) → has bs b ≡ true → (b < n) × (incomparable r a b ≡ true)
 
 module _ (n : ℕ) (r : Rel) (a : ℕ) (bs : List ℕ) where
-  pub beside-first : n ≤ 128 → ((b : ℕ) → has bs b ≡ ((ltb b n && not (eqb a b)) && not (r a b || r b a))) → Beside n r a bs
+  pub beside-first : n ≤ 128 → ((b : ℕ) → has bs b ≡ ((ltb b n && not (eqb a b)) && not (comparable r a b))) → Beside n r a bs
+  unfolding comparable
   beside-first l h =
       record {
         sought =

@@ -1,12 +1,16 @@
 -- What a table holds as its rows are set.
-use Prim.Native.Nat.{ℕ, zero, suc, _/_, _%_, _<_}
-use native.Mathlib.Decide.{ℕ-discrete}
-use mathlib.Core.Path.{_≡_, refl, ap, _∙_}
+use Prim.Native.Nat.{ℕ, zero, suc, _+_, _/_, _%_, _≤_, _<_, zero-le}
+use native.Mathlib.Nat.{eq-or-lt-of-le}
+use native.Mathlib.Decide.{decLt, ℕ-discrete}
+use native.Mathlib.Omega.{arith}
+use mathlib.Core.Path.{_≡_, refl, sym, ap, _∙_}
 use mathlib.Core.List.{List, [], _∷_}
-use mathlib.Core.Bool.{false}
-use lib.ListN.{length, getD, set, replicate}
+use mathlib.Core.Bool.{true, false}
+use mathlib.Core.Logic.{⊎-elim}
+use lib.ListN.{length, getD, set, replicate, length-set}
 use lib.Seq.{getD-set-same, getD-set-other}
 use Rattle.poset.specs.Order.{Rel}
+use Rattle.poset.proofs.Laws.{false-unless}
 use Rattle.relation.specs.Table.{bit, has, holds}
 use Rattle.relation.proofs.Words.{bit-zero}
 
@@ -45,3 +49,36 @@ unfolding holds has
 holds-blank zero u v = bit-zero (v % 64)
 holds-blank (suc n) zero v = has-blank v
 holds-blank (suc n) (suc u) v = holds-blank n u v
+
+-- a table made row by row, of which the rows below i hold a relation
+pub record Filled (rel : Rel) (r : List (List ℕ)) (n i : ℕ) : Type 0 where
+  pub within : i ≤ n
+  pub rows : length r ≡ 128
+  pub done : (u v : ℕ) → u < i → holds r u v ≡ rel u v
+  pub left : (u v : ℕ) → i ≤ u → holds r u v ≡ false
+
+module _ (rel : Rel) (n : ℕ) where
+  pub filled-none : Filled rel (replicate 128 (replicate 2 0)) n 0
+  filled-none = record { within = zero-le; rows = refl; done = λ u v l. absurd (omega arith); left = λ u v l. holds-blank 128 u v }
+
+  module _ (r : List (List ℕ)) (i : ℕ) (p : Filled rel r n i) where
+    pub filled-end : n ≤ i → ((u v : ℕ) → rel u v ≡ true → u < n) → (u v : ℕ) → holds r u v ≡ rel u v
+    filled-end l inside u v = by (decLt u n)
+      where
+        by : Dec (u < n) → holds r u v ≡ rel u v
+        by (yes h) = p .done u v (omega arith)
+        by (no h) = p .left u v (omega arith) ∙ sym (false-unless _ (λ d. h (inside u v d)))
+
+    pub filled-next : i < n → n ≤ 128 → (row : List ℕ) → ((v : ℕ) → has row v ≡ rel i v) → Filled rel (set r i row) n (i + 1)
+    filled-next l m row h =
+        record {
+          within = omega arith;
+          rows = length-set r i row ∙ p .rows;
+          done =
+              λ u v d.
+              ⊎-elim
+              (λ (c : u ≡ i). rw c (row-here r i row (rw (p .rows) (omega arith)) v ∙ h v))
+              (λ (c : u < i). row-there r i row u v (λ c′. omega arith) ∙ p .done u v c)
+              (eq-or-lt-of-le (omega arith));
+          left = λ u v d. row-there r i row u v (λ c. omega arith) ∙ p .left u v (omega arith);
+        }
