@@ -16,7 +16,7 @@ use Rattle.poset.proofs.Searches.{first-on-cycle-none}
 -- one job more to run through
 
 module _ (r : Rel) (k u v : ℕ) where
-  via-step : via r (suc k) u v ≡ (via r k u v || (via r k u k && via r k k v))
+  pub via-step : via r (suc k) u v ≡ (via r k u v || (via r k u k && via r k k v))
   unfolding via
   via-step = as-tests (via r k u v) (via r k u k) (via r k k v)
     where

@@ -78,16 +78,16 @@ first-on-cycle-least n r u h =
 
 module _ (n : ℕ) (r : Rel) where
   -- what the search for an N finds once it has chosen a, b, c and d; a, b and c; a and b; a
-  abbrev at-d : ℕ → ℕ → ℕ → ℕ → Option Four
+  abbrev pub at-d : ℕ → ℕ → ℕ → ℕ → Option Four
   at-d a b c d = onlyIf (isN r a b c d) (a, b, c, d)
 
-  abbrev at-c : ℕ → ℕ → ℕ → Option Four
+  abbrev pub at-c : ℕ → ℕ → ℕ → Option Four
   at-c a b c = first (at-d a b c) (below n)
 
-  abbrev at-b : ℕ → ℕ → Option Four
+  abbrev pub at-b : ℕ → ℕ → Option Four
   at-b a b = first (at-c a b) (below n)
 
-  abbrev at-a : ℕ → Option Four
+  abbrev pub at-a : ℕ → Option Four
   at-a a = first (at-b a) (below n)
 
   -- it is something where there is an N

@@ -1,0 +1,150 @@
+// The steps of crate `relation` beside the same algorithms in C, in one process, on the same arcs. README.md says how to run it.
+#include <stdint.h>
+#include <stdio.h>
+#include <stdlib.h>
+#include <string.h>
+#include <time.h>
+
+void bench_reduce(const uint16_t *arcs, size_t numbers, size_t n, uint8_t *area, size_t room);
+uint64_t bench_order(const uint16_t *arcs, size_t numbers, size_t n);
+uint64_t bench_first_n(const uint16_t *arcs, size_t numbers, size_t n);
+
+typedef struct { uint64_t w[2]; } set;
+static inline void put(set *s, int i) { s->w[i >> 6] |= 1ull << (i & 63); }
+static inline void drop(set *s, int i) { s->w[i >> 6] &= ~(1ull << (i & 63)); }
+static inline set and_(set a, set b) { return (set){{a.w[0] & b.w[0], a.w[1] & b.w[1]}}; }
+static inline set or_(set a, set b) { return (set){{a.w[0] | b.w[0], a.w[1] | b.w[1]}}; }
+static inline set but(set a, set b) { return (set){{a.w[0] & ~b.w[0], a.w[1] & ~b.w[1]}}; }
+static inline int none(set a) { return !(a.w[0] | a.w[1]); }
+static inline int low(set a) { return a.w[0] ? __builtin_ctzll(a.w[0]) : 64 + __builtin_ctzll(a.w[1]); }
+#define EACH(j, s) for (int q_##j = 0, j; q_##j < 2; q_##j++) for (uint64_t x_##j = (s).w[q_##j]; x_##j && (j = 64 * q_##j + __builtin_ctzll(x_##j), 1); x_##j &= x_##j - 1)
+
+static void closed(const uint16_t *arcs, size_t numbers, int n, set after[128]) {
+    memset(after, 0, 128 * sizeof(set));
+    for (size_t i = 0; i + 1 < numbers; i += 2) put(&after[arcs[i]], arcs[i + 1]);
+    for (int k = 0; k < n; k++) {
+        set rk = after[k];
+        for (int i = 0; i < n; i++) {
+            uint64_t m = -(after[i].w[k >> 6] >> (k & 63) & 1);
+            after[i].w[0] |= rk.w[0] & m; after[i].w[1] |= rk.w[1] & m;
+        }
+    }
+}
+__attribute__((noinline)) static void c_reduce(const uint16_t *arcs, size_t numbers, size_t n, uint8_t *area, size_t room) {
+    set after[128];
+    closed(arcs, numbers, n, after);
+    size_t k = 0;
+    for (int i = 0; i < (int)n; i++) {
+        set far = {{0, 0}};
+        for (set s = after[i]; !none(s); s = but(s, far)) { int j = low(s); drop(&s, j); far = or_(far, after[j]); }
+        set only = but(after[i], far);
+        EACH(j, only) { area[k++] = i; area[k++] = j; }
+    }
+}
+
+// Hacker's Delight, 7-3: a 64 by 64 bit matrix turned in place
+static void turn64(uint64_t m[64]) {
+    uint64_t k = 0x00000000ffffffffull;
+    for (int j = 32; j; j >>= 1, k ^= k << j)
+        for (int i = 0; i < 64; i = (i + j + 1) & ~j) { uint64_t t = ((m[i] >> j) ^ m[i + j]) & k; m[i] ^= t << j; m[i + j] ^= t; }
+}
+static void turn(set *to, const set *from, int n) {
+    uint64_t m[64];
+    memset(to, 0, 128 * sizeof(set));
+    if (n <= 16) { for (int i = 0; i < n; i++) for (int j = 0; j < n; j++) to[j].w[0] |= (from[i].w[0] >> j & 1) << i; return; }
+    int k = (n + 63) / 64;
+    for (int r = 0; r < k; r++) for (int c = 0; c < k; c++) {
+        for (int i = 0; i < 64; i++) m[i] = from[64 * r + i].w[c];
+        turn64(m);
+        for (int i = 0; i < 64; i++) to[64 * c + i].w[r] = m[i];
+    }
+}
+__attribute__((noinline)) static uint64_t c_order(const uint16_t *arcs, size_t numbers, size_t n) {
+    set after[128], under[128];
+    closed(arcs, numbers, n, after);
+    turn(under, after, n);
+    return under[127].w[0];
+}
+__attribute__((noinline)) static uint64_t c_first_n(const uint16_t *arcs, size_t numbers, size_t n) {
+    set after[128], under[128], all = {{0, 0}};
+    closed(arcs, numbers, n, after);
+    turn(under, after, n);
+    for (int i = 0; i < (int)n; i++) put(&all, i);
+    for (int x = 0; x < (int)n; x++) {
+        set ys = but(but(all, after[x]), under[x]);
+        EACH(y, ys) {
+            if (y == x) continue;
+            set ds = but(but(after[y], after[x]), under[x]);
+            if (none(ds)) continue;
+            set cs = and_(after[x], after[y]);
+            EACH(c, cs) {
+                set e = but(but(ds, after[c]), under[c]);
+                drop(&e, c); drop(&e, x);
+                if (!none(e)) return x + 256ull * y + 65536ull * c + 16777216ull * low(e);
+            }
+        }
+    }
+    return 1ull << 32;
+}
+
+static uint16_t arcs[8192]; static size_t numbers;
+static void arc(int u, int v) { if (numbers < 8192) { arcs[numbers++] = u; arcs[numbers++] = v; } }
+
+static double now(void) { struct timespec t; clock_gettime(CLOCK_MONOTONIC, &t); return t.tv_sec * 1e9 + t.tv_nsec; }
+typedef void reducer(const uint16_t *, size_t, size_t, uint8_t *, size_t);
+static uint8_t mine[8192], theirs[8192];
+static double reduce_time(reducer *f, uint8_t *area, int rounds) {
+    double s = now();
+    for (int i = 0; i < rounds; i++) { f(arcs, numbers, 128, area, 8192); __asm__ volatile("" ::: "memory"); }
+    return (now() - s) / rounds;
+}
+static void race_reduce(const char *name) {
+    double best_r = 1e18, best_c = 1e18;
+    for (int turn = 0; turn < 1000; turn++) {
+        double r = reduce_time(bench_reduce, mine, 5), c = reduce_time(c_reduce, theirs, 5);
+        if (r < best_r) best_r = r;
+        if (c < best_c) best_c = c;
+    }
+    printf("%-34s rattle %8.0f ns   C %8.0f ns   ratio %.2f%s\n", name, best_r, best_c, best_r / best_c, memcmp(mine, theirs, 8192) ? "   DIFFER" : "");
+}
+
+typedef uint64_t searcher(const uint16_t *, size_t, size_t);
+static uint64_t answer;
+static double search_time(searcher *f, int n, int rounds) {
+    double s = now();
+    for (int i = 0; i < rounds; i++) { answer = f(arcs, numbers, n); __asm__ volatile("" ::: "memory"); }
+    return (now() - s) / rounds;
+}
+// the whole, and what is left of it once closure and transposed table are taken off
+static void race_first_n(const char *name, int n) {
+    double r = 1e18, ro = 1e18, c = 1e18, co = 1e18; uint64_t mine = 0, theirs = 0;
+    int rounds = n < 16 ? 1000 : 2;
+    for (int turn = 0; turn < 1000; turn++) {
+        double t;
+        t = search_time(bench_order, n, rounds); if (t < ro) ro = t;
+        t = search_time(bench_first_n, n, rounds); if (t < r) r = t;
+        mine = answer;
+        t = search_time(c_order, n, rounds); if (t < co) co = t;
+        t = search_time(c_first_n, n, rounds); if (t < c) c = t;
+        theirs = answer;
+    }
+    printf("%-34s rattle %8.0f ns   C %8.0f ns   ratio %.2f%s\n", name, r, c, r / c, mine != theirs ? "   DIFFER" : "");
+    printf("  its closure and transposed table rattle %8.0f ns   C %8.0f ns   ratio %.2f\n", ro, co, ro / co);
+    printf("  its search alone                 rattle %8.0f ns   C %8.0f ns   ratio %.2f   (N %08lx)\n", r - ro, c - co, (r - ro) / (c - co), (unsigned long)mine);
+}
+
+int main(void) {
+    for (int u = 0; u < 128; u++) for (int v = u + 1; v < 128 && v <= u + 32; v++) arc(u, v);
+    race_reduce("closure and reduction, dense");
+    numbers = 0;
+    for (int u = 0; u < 64; u++) for (int v = 64; v < 128; v++) arc(u, v);
+    race_reduce("closure and reduction, bipartite");
+    numbers = 0;
+    // (A beside B then D) then C, and beside it all an N on the last four jobs: all that is tried before it fails late
+    for (int i = 0; i < 31; i++) for (int j = 0; j < 31; j++) { arc(i, 93 + j); arc(31 + i, 62 + j); arc(62 + i, 93 + j); }
+    arc(124, 126); arc(125, 126); arc(125, 127);
+    race_first_n("first N, the last one", 128);
+    numbers = 0;
+    arc(0, 2); arc(1, 2); arc(1, 3);
+    race_first_n("first N of five jobs", 5);
+}

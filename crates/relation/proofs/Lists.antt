@@ -1,0 +1,197 @@
+-- Lists of which a test keeps a part, searches in them, and the numbers of a range.
+use Prim.Native.Nat.{ℕ, zero, suc, _+_, _-_, _≤_, _<_, zero-le, suc-le-suc}
+use native.Mathlib.Nat.{lt-of-lt-of-le, le-trans, le-suc}
+use native.Mathlib.Decide.{decLt}
+use native.Mathlib.Omega.{arith}
+use mathlib.Core.Path.{_≡_, refl, sym, ap, _∙_}
+use mathlib.Core.List.{List, [], _∷_, _++_, map, List·Memᴰ, List·Memᴰ·head, List·Memᴰ·tail}
+use mathlib.Core.Bool.{Bool, true, false, _&&_, _||_, not}
+use mathlib.Core.Option.{Option, none, some}
+use mathlib.Core.Logic.{⊎-elim}
+use lib.Dec.{ltb}
+use lib.ListN.{length}
+use borrow.Author.Tests.{lt-ltb, le-ltb}
+use Rattle.poset.specs.Lists.{any, keep, upFrom, below, first}
+use Rattle.poset.proofs.Laws.{clash, not-true, not-false}
+use Rattle.poset.proofs.Laws.{decided, any-hit, any-none, keep-yes, keep-not, first-here, first-later, found-or-none}
+use Rattle.poset.proofs.Laws.{below-mem, mem-below}
+
+pub and-true : (b : Bool) → (b && true) ≡ b
+and-true true = refl
+and-true false = refl
+
+pub and-false : (b : Bool) → (b && false) ≡ false
+and-false true = refl
+and-false false = refl
+
+pub and-comm : (a b : Bool) → (a && b) ≡ (b && a)
+and-comm true b = sym (and-true b)
+and-comm false b = sym (and-false b)
+
+pub neither : (a b : Bool) → not (a || b) ≡ true → (a ≡ false) × (b ≡ false)
+neither true b h = absurd (clash h refl)
+neither false b h = (refl, not-true b h)
+
+pub not-either : (a b : Bool) → a ≡ false → b ≡ false → not (a || b) ≡ true
+not-either true b p q = absurd (clash refl p)
+not-either false b p q = not-false b q
+
+pub or-false : (b : Bool) → (b || false) ≡ b
+or-false true = refl
+or-false false = refl
+
+pub or-assoc : (a b c : Bool) → ((a || b) || c) ≡ (a || (b || c))
+or-assoc true b c = refl
+or-assoc false b c = refl
+
+module _ {ℓ} {A : Type ℓ} (p : A → Bool) where
+  pub keep-append : (xs ys : List A) → keep p (xs ++ ys) ≡ keep p xs ++ keep p ys
+  unfolding keep
+  keep-append [] ys = refl
+  keep-append (x ∷ xs) ys =
+      ⊎-elim
+      (λ (e : p x ≡ true). rw (keep-yes p x (xs ++ ys) e, keep-yes p x xs e) (ap {B = List A} (λ zs. x ∷ zs) (keep-append xs ys)))
+      (λ (e : p x ≡ false). rw (keep-not p x (xs ++ ys) e, keep-not p x xs e) (keep-append xs ys))
+      (decided (p x))
+
+  pub keep-none : (xs : List A) → ((x : A) → List·Memᴰ x xs → p x ≡ false) → keep p xs ≡ []
+  unfolding keep
+  keep-none [] h = refl
+  keep-none (x ∷ xs) h = keep-not p x xs (h x (List·Memᴰ·head refl)) ∙ keep-none xs (λ y m. h y (List·Memᴰ·tail m))
+
+  -- two tests that agree on a list
+  module _ (q : A → Bool) where
+    pub keep-agree : (xs : List A) → ((x : A) → List·Memᴰ x xs → p x ≡ q x) → keep p xs ≡ keep q xs
+    unfolding keep
+    keep-agree [] h = refl
+    keep-agree (x ∷ xs) h =
+        ⊎-elim
+        (λ (e : p x ≡ true).
+        rw (keep-yes p x xs e, keep-yes q x xs (sym here ∙ e)) (ap {B = List A} (λ zs. x ∷ zs) (keep-agree xs rest)))
+        (λ (e : p x ≡ false). rw (keep-not p x xs e, keep-not q x xs (sym here ∙ e)) (keep-agree xs rest))
+        (decided (p x))
+      where
+        here : p x ≡ q x
+        here = h x (List·Memᴰ·head refl)
+
+        rest : (y : A) → List·Memᴰ y xs → p y ≡ q y
+        rest y m = h y (List·Memᴰ·tail m)
+
+    -- a test that passes less keeps no more
+    pub keep-fewer : ((x : A) → p x ≡ true → q x ≡ true) → (xs : List A) → length (keep p xs) ≤ length (keep q xs)
+    unfolding keep
+    keep-fewer h [] = zero-le
+    keep-fewer h (x ∷ xs) =
+        ⊎-elim
+        (λ (e : p x ≡ true). rw (keep-yes p x xs e, keep-yes q x xs (h x e)) (suc-le-suc (keep-fewer h xs)))
+        (λ (e : p x ≡ false).
+        rw (keep-not p x xs e)
+        (⊎-elim
+        (λ (d : q x ≡ true). rw (keep-yes q x xs d) (le-trans (keep-fewer h xs) (le-suc (length (keep q xs)))))
+        (λ (d : q x ≡ false). rw (keep-not q x xs d) (keep-fewer h xs))
+        (decided (q x))))
+        (decided (p x))
+
+  -- a search that finds nothing where the test fails
+  module _ {κ} {B : Type κ} (f : A → Option B) where
+    pub first-keep : (xs : List A) → ((x : A) → List·Memᴰ x xs → p x ≡ false → f x ≡ none) → first f (keep p xs) ≡ first f xs
+    unfolding keep
+    first-keep [] h = refl
+    first-keep (x ∷ xs) h =
+        ⊎-elim
+        (λ (e : p x ≡ true).
+        rw (keep-yes p x xs e)
+        (⊎-elim
+        (λ s. first-here f x (keep p xs) (s .1) ∙ sym (first-here f x xs (s .1)))
+        (λ (o : f x ≡ none). first-later f x (keep p xs) o ∙ first-keep xs rest ∙ sym (first-later f x xs o))
+        (found-or-none (f x))))
+        (λ (e : p x ≡ false).
+        rw (keep-not p x xs e) (first-keep xs rest ∙ sym (first-later f x xs (h x (List·Memᴰ·head refl) e))))
+        (decided (p x))
+      where
+        rest : (y : A) → List·Memᴰ y xs → p y ≡ false → f y ≡ none
+        rest y m = h y (List·Memᴰ·tail m)
+
+-- ranges
+
+pub upFrom-add : (k m n : ℕ) → upFrom k (m + n) ≡ upFrom k m ++ upFrom (k + m) n
+unfolding upFrom
+upFrom-add k zero n =
+    let a : 0 + n ≡ n = omega arith in
+    let b : k + 0 ≡ k = omega arith in
+    rw (a, b)
+upFrom-add k (suc m) n =
+    let e : suc m + n ≡ suc (m + n) = omega arith in
+    let d : suc k + m ≡ k + suc m = omega arith in
+    rw (e, ← d) (ap {B = List ℕ} (λ zs. k ∷ zs) (upFrom-add (suc k) m n))
+
+-- the numbers below m + n, from m on
+pub below-add : (m n : ℕ) → below (m + n) ≡ below m ++ upFrom m n
+unfolding below
+below-add m n = let e : 0 + m ≡ m = omega arith in rw (upFrom-add 0 m n, e)
+
+pub keep-shift : (p : ℕ → Bool) (j k n : ℕ) → keep p (upFrom (j + k) n) ≡ map (λ i. j + i) (keep (λ i. p (j + i)) (upFrom k n))
+unfolding keep upFrom
+keep-shift p j k zero = refl
+keep-shift p j k (suc n) =
+    let e : suc (j + k) ≡ j + suc k = omega arith in
+    ⊎-elim
+    (λ (t : p (j + k) ≡ true).
+    rw (keep-yes p (j + k) (upFrom (suc (j + k)) n) t, keep-yes (λ i. p (j + i)) k (upFrom (suc k) n) t, e)
+    (ap {B = List ℕ} (λ zs. (j + k) ∷ zs) (keep-shift p j (suc k) n)))
+    (λ (t : p (j + k) ≡ false).
+    rw (keep-not p (j + k) (upFrom (suc (j + k)) n) t, keep-not (λ i. p (j + i)) k (upFrom (suc k) n) t, e)
+    (keep-shift p j (suc k) n))
+    (decided (p (j + k)))
+
+-- the first of the numbers below n that a test keeps
+
+module _ (p : ℕ → Bool) (z : ℕ) (clear : (i : ℕ) → i < z → p i ≡ false) where
+  pub any-after : p z ≡ true → (v : ℕ) → any p (below v) ≡ ltb z v
+  any-after h v =
+      elim (decLt z v) [
+        | yes l ↦ any-hit p (below-mem l) h ∙ sym (lt-ltb z v l)
+        | no l ↦ any-none p (below v) (λ i m. clear i (lt-of-lt-of-le (mem-below v m) (omega arith))) ∙ sym (le-ltb z v (omega arith))
+      ]
+
+  pub keep-from : (m : ℕ) → keep p (below (z + m)) ≡ keep p (upFrom z m)
+  keep-from m = rw (below-add z m, keep-append p (below z) (upFrom z m), keep-none p (below z) (λ i l. clear i (mem-below z l)))
+
+-- the numbers below n, from k on: upFrom k (n - k)
+
+pub range-start : (n : ℕ) → below n ≡ upFrom 0 (n - 0)
+unfolding below
+range-start n = let e : n - 0 ≡ n = omega arith in rw e
+
+pub range-step : (k n : ℕ) → k < n → upFrom k (n - k) ≡ k ∷ upFrom (k + 1) (n - (k + 1))
+unfolding upFrom
+range-step k n l =
+    let e : n - k ≡ suc (n - (k + 1)) = omega arith in
+    let d : suc k ≡ k + 1 = omega arith in
+    rw (e, upFrom, d)
+
+pub range-end : (k n : ℕ) → n ≤ k → upFrom k (n - k) ≡ []
+unfolding upFrom
+range-end k n l = let e : n - k ≡ 0 = omega arith in rw e
+
+-- a search over the numbers below n that has come to k
+module _ {ℓ} {B : Type ℓ} (f : ℕ → Option B) (n : ℕ) where
+  pub record Looked (k : ℕ) : Type ℓ where
+    pub within : k ≤ n
+    pub left : first f (below n) ≡ first f (upFrom k (n - k))
+
+  pub looked-none : Looked 0
+  looked-none = record { within = zero-le; left = ap (first f) (range-start n) }
+
+  module _ (k : ℕ) (s : Looked k) where
+    pub looked-end : n ≤ k → none ≡ first f (below n)
+    unfolding first
+    looked-end l = sym (s .left ∙ ap (first f) (range-end k n l))
+
+    module _ (l : k < n) where
+      pub looked-hit : {b : B} → f k ≡ some b → some b ≡ first f (below n)
+      looked-hit h = sym (s .left ∙ ap (first f) (range-step k n l) ∙ first-here f k _ h)
+
+      pub looked-next : f k ≡ none → Looked (k + 1)
+      looked-next h =
+          record { within = omega arith; left = s .left ∙ ap (first f) (range-step k n l) ∙ first-later f k _ h }

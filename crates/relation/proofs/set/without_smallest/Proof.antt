@@ -1,0 +1,50 @@
+use borrow.Author.Needs.{needs}
+use native.Mathlib.Omega.{arith}
+use Rattle.relation.proofs.Sets.{Row, rest-low, rest-high, other-word}
+use Rattle.relation.proofs.set.without_smallest.Statement.{statement}
+use Rattle.relation.proofs.set.without_smallest.Tie as tie
+
+array-read-if1 : tie.Need-array-read-if1
+array-read-if1 c = search needs
+
+array-read-t10 : tie.Need-array-read-t10
+array-read-t10 c = search needs
+
+array-read-t13 : tie.Need-array-read-t13
+array-read-t13 c = search needs
+
+sub-t14 : tie.Need-sub-t14
+sub-t14 c = search needs
+
+array-read-t18 : tie.Need-array-read-t18
+array-read-t18 c = search needs
+
+array-read-t21 : tie.Need-array-read-t21
+array-read-t21 c = search needs
+
+array-read-t24 : tie.Need-array-read-t24
+array-read-t24 c = search needs
+
+sub-t25 : tie.Need-sub-t25
+sub-t25 c = let s = c .before .args .t1 in omega (arith, other-word s (record { two = search needs; low = search needs; high = search needs }) (c .before .pre) (c .if1 .left))
+
+returns : tie.Need-returns
+returns c = rest-low (c .before .args .t1) (record { two = search needs; low = search needs; high = search needs }) (c .if1 .taken)
+
+returns-2 : tie.Need-returns-2
+returns-2 c = let s = c .before .args .t1 in let r : Row s = record { two = search needs; low = search needs; high = search needs } in rest-high s r (c .if1 .left) (other-word s r (c .before .pre) (c .if1 .left))
+
+pub without-smallest-spec : {M : Type 1} → statement M
+without-smallest-spec =
+    tie.close
+    (tie.spec
+    array-read-if1
+    array-read-t10
+    array-read-t13
+    sub-t14
+    array-read-t18
+    array-read-t21
+    array-read-t24
+    sub-t25
+    returns
+    returns-2)

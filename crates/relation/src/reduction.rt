@@ -1,0 +1,93 @@
+//! The transitive reduction of an order, and the pairs of a table, counted and written.
+use crate::set;
+ghost use Prim.Native.Nat.{ℕ, _+_, _*_, _<_, _≤_};
+ghost use mathlib.Core.Path.{_≡_};
+ghost use mathlib.Core.Bool.{_&&_};
+ghost use mathlib.Core.List.{map};
+ghost use lib.ListN.{length};
+ghost use lib.Seq.{sets};
+ghost use Rattle.poset.specs.Lists.{any, below};
+ghost use Rattle.poset.specs.Order.{Strict, covers, pairsOf};
+ghost use Rattle.relation.specs.Table.{has, holds, members, Inside};
+ghost use Rattle.relation.specs.Arcs.{arcBytes, overlay};
+
+// The jobs that are after some job after u. A job that is found already has nothing to add.
+fn beyond(t: &[[u64; 2]; 128], u: usize, n: usize) -> [u64; 2]
+    requires { ⌜ (n ≤ 128) × (u < n) ⌝ }
+    requires { ⌜ Strict n (holds (now t)) ⌝ }
+    requires { ⌜ Inside n (now t) ⌝ }
+    ensures { λ r. ⌜ ((v : ℕ) → has r v ≡ any (λ w. holds (now (t .entry)) u w && holds (now (t .entry)) w v) (below n)) ⌝ }
+{
+    let mut far = [0u64; 2];
+    let mut rest = t[u];
+    while set::inhabited(rest) {
+        let w = set::smallest(rest);
+        let joined = set::union(far, t[w]);
+        let others = set::difference(set::without_smallest(rest), joined);
+        far = joined;
+        rest = others;
+    }
+    far
+}
+
+// The transitive reduction of an order on the jobs below n.
+pub fn reduced(t: [[u64; 2]; 128], n: usize) -> [[u64; 2]; 128]
+    requires { ⌜ n ≤ 128 ⌝ }
+    requires { ⌜ Strict n (holds t) ⌝ }
+    requires { ⌜ Inside n t ⌝ }
+    ensures { λ r. ⌜ ((u v : ℕ) → holds r u v ≡ covers n (holds t) u v) ⌝ }
+{
+    let none = [0u64; 2];
+    let mut r = [none; 128];
+    for u in 0..n {
+        let far = beyond(&t, u, n);
+        r[u] = set::difference(t[u], far);
+    }
+    r
+}
+
+// How many pairs a table holds.
+pub fn pair_count(t: &[[u64; 2]; 128], n: usize) -> usize
+    requires { ⌜ n ≤ 128 ⌝ }
+    requires { ⌜ Inside n (now t) ⌝ }
+    ensures { λ r. ⌜ r ≡ length (pairsOf n (holds (now (t .entry)))) ⌝ }
+{
+    let mut count = 0;
+    for u in 0..n {
+        count += set::size(t[u]);
+    }
+    count
+}
+
+// Writes the pairs from u to each job of the row, two bytes for each; the place after them.
+fn write_row(u: usize, row: [u64; 2], at: usize, area: &mut [u8]) -> usize
+    requires { ⌜ (u < 128) × (at + 2 * length (members row) ≤ length (now area)) ⌝ }
+    ensures { λ r. ⌜ r ≡ at + 2 * length (members row) ⌝ }
+    ensures { λ _. ⌜ now (area .exit) ≡ sets (now (area .entry)) at (arcBytes (map (λ v. (u, v)) (members row))) ⌝ }
+{
+    let mut k = at;
+    let mut rest = row;
+    while set::inhabited(rest) {
+        let v = set::smallest(rest);
+        area[k] = u as u8;
+        area[k + 1] = v as u8;
+        k += 2;
+        let others = set::without_smallest(rest);
+        rest = others;
+    }
+    k
+}
+
+// Writes the pairs that a table holds, by first job, then second, two bytes for each. The bytes after them stay.
+pub fn write_pairs(t: &[[u64; 2]; 128], n: usize, area: &mut [u8])
+    requires { ⌜ n ≤ 128 ⌝ }
+    requires { ⌜ Inside n (now t) ⌝ }
+    requires { ⌜ 2 * length (pairsOf n (holds (now t))) ≤ length (now area) ⌝ }
+    ensures { λ _. ⌜ now (area .exit) ≡ overlay (arcBytes (pairsOf n (holds (now (t .entry))))) (now (area .entry)) ⌝ }
+{
+    let mut at = 0;
+    for u in 0..n {
+        let next = write_row(u, t[u], at, area);
+        at = next;
+    }
+}

@@ -1,0 +1,104 @@
+//! Sets of the jobs below 128, two words each: job v is bit v % 64 of word v / 64.
+ghost use mathlib.Core.Path.{_≡_};
+ghost use Prim.Native.Nat.{ℕ, _<_, _≤_};
+ghost use mathlib.Core.Bool.{true, _&&_, _||_, not};
+ghost use lib.Dec.{eqb, ltb};
+ghost use lib.ListN.{length};
+ghost use Rattle.poset.specs.Lists.{any, below};
+ghost use Rattle.relation.specs.Table.{has, members, Least};
+
+pub fn contains(s: [u64; 2], v: usize) -> bool
+    requires { ⌜ v < 128 ⌝ }
+    ensures { λ r. ⌜ r ≡ has s v ⌝ }
+{
+    let word = if v < 64 { s[0] } else { s[1] };
+    word >> (v % 64) & 1 == 1
+}
+
+pub fn union(a: [u64; 2], b: [u64; 2]) -> [u64; 2]
+    ensures { λ r. ⌜ ((v : ℕ) → has r v ≡ (has a v || has b v)) ⌝ }
+{
+    [a[0] | b[0], a[1] | b[1]]
+}
+
+// The union where the test holds, and the first set where not. There is no branch: the mask is all ones or 0.
+pub fn union_if(test: bool, a: [u64; 2], b: [u64; 2]) -> [u64; 2]
+    ensures { λ r. ⌜ ((v : ℕ) → has r v ≡ (has a v || (test && has b v))) ⌝ }
+{
+    let mask: u64 = if test { 0xffff_ffff_ffff_ffff } else { 0 };
+    [a[0] | b[0] & mask, a[1] | b[1] & mask]
+}
+
+pub fn intersection(a: [u64; 2], b: [u64; 2]) -> [u64; 2]
+    ensures { λ r. ⌜ ((v : ℕ) → has r v ≡ (has a v && has b v)) ⌝ }
+{
+    [a[0] & b[0], a[1] & b[1]]
+}
+
+pub fn difference(a: [u64; 2], b: [u64; 2]) -> [u64; 2]
+    ensures { λ r. ⌜ ((v : ℕ) → has r v ≡ (has a v && not (has b v))) ⌝ }
+{
+    [a[0] & !b[0], a[1] & !b[1]]
+}
+
+pub fn only(v: usize) -> [u64; 2]
+    requires { ⌜ v < 128 ⌝ }
+    ensures { λ r. ⌜ ((x : ℕ) → has r x ≡ eqb v x) ⌝ }
+{
+    if v < 64 {
+        [1 << v, 0]
+    } else {
+        [0, 1 << (v - 64)]
+    }
+}
+
+// The jobs below n.
+pub fn all_below(n: usize) -> [u64; 2]
+    requires { ⌜ n ≤ 128 ⌝ }
+    ensures { λ r. ⌜ ((v : ℕ) → has r v ≡ ltb v n) ⌝ }
+{
+    if n < 64 {
+        [(1 << n) - 1, 0]
+    } else if n < 128 {
+        [0xffff_ffff_ffff_ffff, (1 << (n - 64)) - 1]
+    } else {
+        [0xffff_ffff_ffff_ffff, 0xffff_ffff_ffff_ffff]
+    }
+}
+
+// Whether there is a member.
+pub fn inhabited(s: [u64; 2]) -> bool
+    ensures { λ r. ⌜ r ≡ any (has s) (below 128) ⌝ }
+{
+    s[0] | s[1] != 0
+}
+
+pub fn smallest(s: [u64; 2]) -> usize
+    requires { ⌜ any (has s) (below 128) ≡ true ⌝ }
+    ensures { λ r. ⌜ Least s r ⌝ }
+{
+    if s[0] != 0 {
+        u64::trailing_zeros(s[0]) as usize
+    } else {
+        64 + u64::trailing_zeros(s[1]) as usize
+    }
+}
+
+// All members but the smallest.
+pub fn without_smallest(s: [u64; 2]) -> [u64; 2]
+    requires { ⌜ any (has s) (below 128) ≡ true ⌝ }
+    ensures { λ r. ⌜ ((v : ℕ) → has r v ≡ (has s v && any (has s) (below v))) ⌝ }
+{
+    if s[0] != 0 {
+        [s[0] & (s[0] - 1), s[1]]
+    } else {
+        [0, s[1] & (s[1] - 1)]
+    }
+}
+
+// How many members there are.
+pub fn size(s: [u64; 2]) -> usize
+    ensures { λ r. ⌜ (r ≡ length (members s)) × (r ≤ 128) ⌝ }
+{
+    (u64::count_ones(s[0]) + u64::count_ones(s[1])) as usize
+}

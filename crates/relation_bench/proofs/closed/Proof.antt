@@ -1,0 +1,33 @@
+use native.Mathlib.Omega.{arith}
+use Rattle.relation.specs.Arcs.{pairs}
+use Rattle.relation.proofs.Chain.{table-inside, closure-before}
+use Rattle.relation.proofs.Warshall.{closure-inside}
+use Rattle.relation_bench.proofs.closed.Statement.{statement}
+use Rattle.relation_bench.proofs.closed.Tie as tie
+use Rattle.relation_bench.proofs.closed.Reads as reads
+use Rattle.relation_bench.proofs.closed.Lts as lts
+use Rattle.relation.proofs.arcs.table_of.Reads as table-of-reads
+use Rattle.relation.proofs.order.closure.Reads as closure-reads
+
+-- src/lib.rt:22:20
+table-of-requires : tie.Need-table-of-requires
+table-of-requires c κs = λ a m. let s = c .before in let w = s .pre .1 a m in omega (arith, w, s .pre .0)
+
+-- src/lib.rt:22:5
+closure-requires : tie.Need-closure-requires
+closure-requires c κs =
+    let s = c .before .before in
+    (s .pre .0, table-inside (s .args .n) (pairs (s .args .arcs .now)) (c .table-of .result) (c .table-of .ensures) (s .pre .1))
+
+-- src/lib.rt:16:1
+returns : tie.Need-returns
+returns c =
+    let t = c .before in
+    let s = t .before .before in
+    let inside = table-inside (s .args .n) (pairs (s .args .arcs .now)) (t .table-of .result) (t .table-of .ensures) (s .pre .1) in (
+      closure-before (s .args .n) (pairs (s .args .arcs .now)) (t .table-of .result) (t .table-of .ensures) (c .closure .result) (c .closure .ensures),
+      closure-inside (s .args .n) (t .table-of .result) (c .closure .result) (s .args .n) inside (c .closure .ensures),
+    )
+
+pub closed-spec : {M : Type 1} → statement M
+closed-spec = tie.close (tie.spec table-of-requires closure-requires returns)
