@@ -53,7 +53,7 @@ pub bits-snoc : (k x b : ℕ) → b < 2 → bits (suc k) (x * 2 + b) ≡ bits k 
 bits-snoc k x b h =
     ap (λ (n : ℕ). bits n (x * 2 + b)) (sym (add-one k)) ∙ bits-append k 1 x b h ∙ ap (λ (l : List ℕ). bits k x ++ l) (bit-alone b h)
 
-bits-cons : (k b x : ℕ) → b < 2 → x < 2 ^ k → bits (suc k) (b * 2 ^ k + x) ≡ b ∷ bits k x
+pub bits-cons : (k b x : ℕ) → b < 2 → x < 2 ^ k → bits (suc k) (b * 2 ^ k + x) ≡ b ∷ bits k x
 bits-cons k b x h l =
     let one : suc k ≡ 1 + k = omega arith in
     ap (λ (n : ℕ). bits n (b * 2 ^ k + x)) one ∙ bits-append 1 k b x l ∙ ap (λ (l : List ℕ). l ++ bits k x) (bit-alone b h)

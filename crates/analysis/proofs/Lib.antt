@@ -1,0 +1,13 @@
+pub mod Claims
+pub mod Checks
+pub mod Places
+pub mod Fates
+pub mod Numbers
+pub mod Accepted
+pub mod Inputs
+pub mod Answers
+pub mod ReadBack
+pub mod Sheets
+pub mod Crossed
+pub mod Demands
+pub mod Cases

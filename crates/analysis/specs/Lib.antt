@@ -1,0 +1,4 @@
+-- What each public call hands back: what a reader must believe.
+pub mod Answer
+pub mod Outcome
+pub mod Sentences

@@ -1,0 +1,110 @@
+-- The refusals in checking order, and what an accepted input yields.
+use Prim.Native.Nat.{ℕ, _*_, _%_}
+use mathlib.Core.List.{List, []}
+use mathlib.Core.Bool.{Bool, true, false, _||_}
+use mathlib.Core.Option.{none, some}
+use lib.Dec.{leb, ltb, eqb}
+use lib.ListN.{length}
+use Rattle.poset.specs.Order.{Arc, Rel, before, firstOnCycle, firstN, reduction}
+use Rattle.poset.specs.Tree.{Tree, leaves, reversed, groups, precedes}
+use Rattle.poset.specs.Decompose.{treeOf}
+use Rattle.relation.specs.Arcs.{pairs, place, outside, loop}
+use Rattle.record.specs.Layout.{layout}
+use Rattle.record.specs.Decode.{decode}
+use Rattle.sheet.specs.Scan.{Read, sheet, broken, scan}
+use Rattle.analysis.specs.Answer.{Answer, answer}
+
+-- the room lent for the record and for the reduced orders, in bytes
+pub record Rooms : Type 0 where
+  pub record-room : ℕ
+  pub arc-room : ℕ
+
+-- the answer, what is written to the record area and to the area for reduced orders, and the two sequences
+pub record Outcome : Type 0 where
+  pub verdict : Answer
+  pub bytes : List ℕ
+  pub arcs : List Arc
+  pub forward : List ℕ
+  pub reverse : List ℕ
+
+-- a refusal writes nothing
+unfoldable pub refuse : ℕ → ℕ → ℕ → ℕ → ℕ → Outcome
+refuse n a b c d = record { verdict = answer n a b c d; bytes = []; arcs = []; forward = []; reverse = [] }
+
+-- what the order r on n jobs with the tree t yields, its record included
+unfoldable pub accept : ℕ → Rel → Tree → Outcome
+accept n r t =
+    let bytes = layout n t in
+    let arcs = reduction n r in
+    record {
+      verdict = answer 0 (length bytes) (length arcs) (groups t) 0;
+      bytes = bytes;
+      arcs = arcs;
+      forward = leaves t;
+      reverse = reversed t;
+    }
+
+-- 10: the area for reduced orders is shorter than two bytes for each
+unfoldable pub arcsFit : ℕ → Outcome → Outcome
+arcsFit room o = elim (ltb room (2 * length (o .arcs))) [ true ↦ refuse 10 0 0 0 0 | false ↦ o ]
+
+-- 9: the record area is shorter than the record
+unfoldable pub fitted : Rooms → Outcome → Outcome
+fitted rooms o = elim (ltb (rooms .record-room) (length (o .bytes))) [ true ↦ refuse 9 0 0 0 0 | false ↦ arcsFit (rooms .arc-room) o ]
+
+-- 8: the order has an N. Where it has none it has a tree.
+unfoldable pub decomposed : Rooms → ℕ → Rel → Outcome
+decomposed rooms n r =
+    elim (firstN n r) [
+      | some q ↦ refuse 8 (q .0) (q .1) (q .2) (q .3)
+      | none ↦ elim (treeOf n r) [ some t ↦ fitted rooms (accept n r t) | none ↦ refuse 8 0 0 0 0 ]
+    ]
+
+-- 7: a job is before itself
+unfoldable pub ordered : Rooms → ℕ → Rel → Outcome
+ordered rooms n r = elim (firstOnCycle n r) [ some u ↦ refuse 7 u 0 0 0 | none ↦ decomposed rooms n r ]
+
+-- 5: an arc names a job not below the count; 6: an arc from a job to itself
+unfoldable pub listed : Rooms → ℕ → List Arc → Outcome
+listed rooms n arcs =
+    elim (place (outside n) arcs) [
+      | some i ↦ refuse 5 i 0 0 0
+      | none ↦ elim (place loop arcs) [ some i ↦ refuse 6 i 0 0 0 | none ↦ ordered rooms n (before n arcs) ]
+    ]
+
+-- 3: the count is 0 or above 128; 4: there are more than 4,096 arcs
+unfoldable pub arcOutcome : Rooms → ℕ → List Arc → Outcome
+arcOutcome rooms n arcs =
+    elim (eqb n 0 || ltb 128 n) [
+      | true ↦ refuse 3 0 0 0 0
+      | false ↦ elim (ltb 4096 (length arcs)) [ true ↦ refuse 4 0 0 0 0 | false ↦ listed rooms n arcs ]
+    ]
+
+-- 2: the sheet breaks the line form
+unfoldable pub scanned : Rooms → Read → Outcome
+scanned rooms (broken at) = refuse 2 at 0 0 0
+scanned rooms (sheet n arcs) = arcOutcome rooms n arcs
+
+-- 1: the sheet is longer than 32,772 bytes. The analysis of a sheet.
+unfoldable pub sheetOutcome : Rooms → List ℕ → Outcome
+sheetOutcome rooms s = elim (ltb 32772 (length s)) [ true ↦ refuse 1 0 0 0 0 | false ↦ scanned rooms (scan s) ]
+
+-- The analysis of a pair list: an odd list is 2 at 0.
+unfoldable pub pairOutcome : Rooms → ℕ → List ℕ → Outcome
+pairOutcome rooms n list = elim (eqb (length list % 2) 0) [ true ↦ arcOutcome rooms n (pairs list) | false ↦ refuse 2 0 0 0 0 ]
+
+-- the same for an order that comes from a record: no record is written
+unfoldable pub readBack : List ℕ → ℕ → Tree → Outcome
+readBack bytes n t =
+    let arcs = reduction n (precedes t) in
+    record {
+      verdict = answer 0 (length bytes) (length arcs) (groups t) 0;
+      bytes = [];
+      arcs = arcs;
+      forward = leaves t;
+      reverse = reversed t;
+    }
+
+-- The reading of a record: 11 where the bytes are none, then 10.
+unfoldable pub recordOutcome : ℕ → List ℕ → Outcome
+recordOutcome room bytes = elim (decode bytes) [ none ↦ refuse 11 0 0 0 0 | some x ↦ arcsFit room (readBack bytes (x .0) (x .1)) ]

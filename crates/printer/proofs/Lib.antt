@@ -1,0 +1,6 @@
+pub mod Examples
+pub mod Buffers
+pub mod Digits
+pub mod Loops
+pub mod Arcs
+pub mod Lines

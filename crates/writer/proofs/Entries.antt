@@ -1,0 +1,160 @@
+-- The entries of the stack: what is known of each, and how a group's parts become entries.
+use Prim.Native.Nat.{ℕ, zero, suc, _+_, _*_, _-_, _≤_, _<_}
+use mathlib.Core.Path.{_≡_, refl, sym, ap, ap₂, subst, _∙_}
+use mathlib.Core.List.{List, [], _∷_, _++_, map, List·Memᴰ, List·Memᴰ·head, List·Memᴰ·tail}
+use mathlib.Core.Bool.{Bool, true, false, _&&_, _||_, not, Bool·not-not}
+use mathlib.Core.Logic.{_⊎_, inl, inr, ⊎-elim}
+use native.Mathlib.Omega.{arith}
+use lib.ListN.{length}
+use Rattle.poset.specs.Lists.{below, keep}
+use Rattle.poset.specs.Order.{Rel}
+use Rattle.poset.specs.Tree.{Kind, series, parallel}
+use Rattle.poset.proofs.Laws.{decided, clash, false-unless, and-left, and-right, and-intro, not-true, not-false}
+use Rattle.poset.proofs.Sums.{length-keep, bit, sum, sum-add}
+use Rattle.relation.specs.Table.{has, members}
+use Rattle.record.specs.Layout.{kindBit}
+use Rattle.writer.specs.Parts.{Path, Splits, closeOf}
+use Rattle.writer.specs.Stack.{Entry, entries, jobsOf, startAt, spreadOut, groupField}
+use Rattle.writer.specs.Tokens.{groupToken}
+use Rattle.writer.proofs.Worklist.{Pending, spread, total}
+use Rattle.writer.proofs.Groups.{kindOf, members-of}
+use Rattle.writer.proofs.Splitting.{starts-small}
+
+-- a set whose jobs are all joined to one of them
+abbrev pub JoinedBy : Rel → List ℕ → Type 0
+JoinedBy close s = (x : ℕ) × (has s x ≡ true) × ((u : ℕ) → has s u ≡ true → Path close (λ v. has s v ≡ true) x u)
+
+-- an entry is a set of jobs that its group's parent keeps together
+pub record EntryOk (n : ℕ) (tied free : Rel) (e : Entry) : Type 0 where
+  pub some : 0 < length (members (e .set))
+  pub small : (v : ℕ) → has (e .set) v ≡ true → v < n
+  pub joined : JoinedBy (closeOf (not (e .series)) tied free) (e .set)
+  pub fits : e .start + length (members (e .set)) ≤ n
+
+abbrev pub Every : ℕ → Rel → Rel → List Entry → Type 0
+Every n tied free [] = Unit {0}
+Every n tied free (e ∷ es) = EntryOk n tied free e × Every n tied free es
+
+-- the sets of entries
+abbrev pub sets : List Entry → List (List ℕ)
+sets es = map (λ (e : Entry). e .set) es
+
+pub every-append : (n : ℕ) (tied free : Rel) (es fs : List Entry) → Every n tied free es → Every n tied free fs → Every n tied free (es ++ fs)
+every-append n tied free [] fs x y = y
+every-append n tied free (e ∷ es) fs x y = (x .0, every-append n tied free es fs (x .1) y)
+
+pub jobs-append : (es fs : List Entry) → jobsOf (sets (es ++ fs)) ≡ jobsOf (sets es) + jobsOf (sets fs)
+jobs-append [] fs = omega arith
+jobs-append (e ∷ es) fs = omega (arith, jobs-append es fs)
+
+pub jobs-spread : (flag : Bool) (start whole : ℕ) (ps : List (List ℕ)) → jobsOf (sets (spreadOut flag start whole ps)) ≡ jobsOf ps
+jobs-spread flag start whole [] = refl
+jobs-spread flag start whole (p ∷ ps) = ap (λ k. length (members p) + k) (jobs-spread flag start whole ps)
+
+-- at least one job each
+pub entries-few : (n : ℕ) (tied free : Rel) (stack : List (List ℕ)) (starts : List ℕ) (kinds : List Bool) (h : ℕ)
+    → Every n tied free (entries stack starts kinds h) → h ≤ jobsOf (sets (entries stack starts kinds h))
+unfolding entries
+entries-few n tied free stack starts kinds zero x = omega arith
+entries-few n tied free stack starts kinds (suc h) x = omega (arith, x .0 .some, entries-few n tied free stack starts kinds h (x .1))
+
+-- entries as pending blocks
+abbrev pub toPending : Entry → Pending
+toPending e = record { block = members (e .set); start = e .start }
+
+abbrev pub pend : List Entry → List Pending
+pend es = map toPending es
+
+pub pend-append : (es fs : List Entry) → pend (es ++ fs) ≡ pend es ++ pend fs
+pend-append [] fs = refl
+pend-append (e ∷ es) fs = ap (λ l. toPending e ∷ l) (pend-append es fs)
+
+total-jobs : (ps : List (List ℕ)) → total (map members ps) ≡ jobsOf ps
+total-jobs [] = refl
+total-jobs (p ∷ ps) = ap (λ k. length (members p) + k) (total-jobs ps)
+
+spread-parallel : (start whole : ℕ) (ps : List (List ℕ)) → pend (spreadOut false start whole ps) ≡ spread parallel start (map members ps)
+spread-parallel start whole [] = refl
+spread-parallel start whole (p ∷ ps) =
+    ap₂ _∷_ (ap (λ k. record { block = members p; start = start + k }) (sym (total-jobs ps))) (spread-parallel start whole ps)
+
+spread-series : (start whole at : ℕ) (ps : List (List ℕ)) → at + jobsOf ps ≡ start + whole
+    → pend (spreadOut true start whole ps) ≡ spread series at (map members ps)
+spread-series start whole at [] e = refl
+spread-series start whole at (p ∷ ps) e =
+    let here : start + whole - jobsOf ps - length (members p) ≡ at = omega arith in
+    ap₂ _∷_ (ap (λ k. record { block = members p; start = k }) here) (spread-series start whole (at + length (members p)) ps (omega arith))
+
+pub pend-spread : (flag : Bool) (start whole : ℕ) (ps : List (List ℕ)) → jobsOf ps ≡ whole
+    → pend (spreadOut flag start whole ps) ≡ spread (kindOf flag) start (map members ps)
+pend-spread true start whole ps e = spread-series start whole start ps (omega arith)
+pend-spread false start whole ps e = spread-parallel start whole ps
+
+pub field-token : (flag : Bool) (m : ℕ) → groupField flag m ≡ groupToken (kindOf flag) m
+unfolding kindBit
+field-token true m = refl
+field-token false m = refl
+
+-- a set and what is left of it
+two-jobs : (s part rest : List ℕ) → ((v : ℕ) → has part v ≡ true → has s v ≡ true) → ((v : ℕ) → has rest v ≡ (has s v && not (has part v)))
+    → length (members s) ≡ length (members part) + length (members rest)
+unfolding members
+two-jobs s part rest within f =
+    omega (
+      arith,
+      length-keep (has s) (below 128),
+      length-keep (has part) (below 128),
+      length-keep (has rest) (below 128),
+      sum-add (λ v. bit (has part v)) (λ v. bit (has rest v)) (below 128),
+      sum-same (λ v. bit (has s v)) (λ v. bit (has part v) + bit (has rest v)) (below 128) (λ v. one-of v (decided (has part v)) (decided (has s v))),
+    )
+  where
+    sum-same : (g h : ℕ → ℕ) (xs : List ℕ) → ((v : ℕ) → g v ≡ h v) → sum g xs ≡ sum h xs
+    sum-same g h [] e = refl
+    sum-same g h (x ∷ xs) e = omega (arith, e x, sum-same g h xs e)
+
+    value : (v : ℕ) (a b : Bool) → has s v ≡ a → has part v ≡ b → bit (has s v) ≡ bit a
+    value v a b p q = ap bit p
+
+    one-of : (v : ℕ) → (has part v ≡ true) ⊎ (has part v ≡ false) → (has s v ≡ true) ⊎ (has s v ≡ false) → bit (has s v) ≡ bit (has part v) + bit (has rest v)
+    one-of v (inl p) q = omega (arith, ap bit (within v p), ap bit p, ap bit (f v ∙ ap₂ (λ a b. a && not b) (within v p) p))
+    one-of v (inr p) (inl q) = omega (arith, ap bit q, ap bit p, ap bit (f v ∙ ap₂ (λ a b. a && not b) q p))
+    one-of v (inr p) (inr q) = omega (arith, ap bit q, ap bit p, ap bit (f v ∙ ap₂ (λ a b. a && not b) q p))
+
+pub none-jobs : (s : List ℕ) → ((v : ℕ) → has s v ≡ false) → length (members s) ≡ 0
+unfolding members
+none-jobs s none = omega (arith, length-keep (has s) (below 128), zeros (below 128))
+  where
+    zeros : (xs : List ℕ) → sum (λ v. bit (has s v)) xs ≡ 0
+    zeros [] = refl
+    zeros (x ∷ xs) = omega (arith, ap bit (none x), zeros xs)
+
+-- parts have the jobs of their set
+pub splits-jobs : (close under : Rel) (flag : Bool) (ps : List (List ℕ)) (s : List ℕ) → Splits close under flag s ps → jobsOf ps ≡ length (members s)
+splits-jobs close under flag [] s h = sym (none-jobs s h)
+splits-jobs close under flag (p ∷ ps) s (x, rest, at, part, f, h) =
+    omega (arith, splits-jobs close under flag ps rest h, two-jobs s p rest (part .within) f)
+
+-- and are entries of the group
+pub splits-every : (n : ℕ) (tied free under : Rel) (flag : Bool) (start whole : ℕ) → start + whole ≤ n → (ps : List (List ℕ)) (s : List ℕ)
+    → ((v : ℕ) → has s v ≡ true → v < n) → n ≤ 128 → Splits (closeOf flag tied free) under flag s ps → jobsOf ps ≤ whole
+    → Every n tied free (spreadOut flag start whole ps)
+splits-every n tied free under flag start whole room [] s small few h fit = tt
+splits-every n tied free under flag start whole room (p ∷ ps) s small few (x, rest, at, part, f, h) fit = (
+  record {
+    some = mem-length (members-of p x (omega (arith, small x (part .within x (part .own)))) (part .own));
+    small = λ v q. small v (part .within v q);
+    joined =
+        subst (λ b. JoinedBy (closeOf b tied free) p) (sym (Bool·not-not flag)) (x, part .own, part .joined);
+    fits = start-fits flag start whole (jobsOf ps) (length (members p)) n room fit;
+  },
+  splits-every n tied free under flag start whole room ps rest (λ v q. small v (and-left (has s v) (not (has p v)) (sym (f v) ∙ q))) few h (omega arith),
+)
+  where
+    mem-length : {y : ℕ} {xs : List ℕ} → List·Memᴰ y xs → 0 < length xs
+    mem-length (List·Memᴰ·head e) = omega arith
+    mem-length (List·Memᴰ·tail m) = omega arith
+
+    start-fits : (b : Bool) (start whole later size n : ℕ) → start + whole ≤ n → size + later ≤ whole → startAt b start whole later size + size ≤ n
+    start-fits true start whole later size n r l = omega arith
+    start-fits false start whole later size n r l = omega arith

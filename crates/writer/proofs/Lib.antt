@@ -1,0 +1,17 @@
+pub mod Stores
+pub mod Worklist
+pub mod Reached
+pub mod Peeling
+pub mod Packs
+pub mod Packed
+pub mod Searching
+pub mod Counting
+pub mod Firsts
+pub mod Splitting
+pub mod Groups
+pub mod Stacking
+pub mod Rows
+pub mod Entries
+pub mod Roots
+pub mod Shaping
+pub mod Spelling

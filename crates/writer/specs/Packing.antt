@@ -1,0 +1,34 @@
+-- Fields of bits as bytes, and what a packing holds.
+use Prim.Native.Nat.{ℕ, _-_, _≤_, _<_, _^_}
+use mathlib.Core.Path.{_≡_}
+use mathlib.Core.List.{List, _∷_, _++_, flatMap}
+use mathlib.Core.Bool.{true, false}
+use lib.Dec.{ltb}
+use lib.ListN.{length, take, replicate}
+use Rattle.record.specs.Bits.{AllBelow, bits, bitsOf, bytesOf}
+use Rattle.writer.specs.declared.pack.Packing.{Packing}
+
+-- a leaf is 8 bits; a group, 256 and more, is a 1 and 8 bits
+unfoldable pub fieldBits : ℕ → List ℕ
+fieldBits x = elim (ltb x 256) [ true ↦ bits 8 x | false ↦ 1 ∷ bits 8 (x - 256) ]
+
+-- there is room for a byte more
+pub record Ready (p : Packing) : Type 0 where
+  pub room : p .at < 272
+  pub few : p .have < 8
+  pub small : p .value < 2 ^ p .have
+
+-- the bits bs are the whole bytes and the bits in hand
+pub record Holds (bs bytes : List ℕ) (p : Packing) : Type 0 where
+  pub size : length bytes ≡ 272
+  pub whole : p .at ≤ 272
+  pub few : p .have < 8
+  pub small : p .value < 2 ^ p .have
+  pub low : AllBelow 256 (take (p .at) bytes)
+  pub these : bs ≡ bitsOf (take (p .at) bytes) ++ bits (p .have) (p .value)
+
+-- the first bytes are those of the bits bs
+pub record Ends (bs bytes : List ℕ) (count : ℕ) : Type 0 where
+  pub size : length bytes ≡ 272
+  pub few : count ≤ 272
+  pub these : take count bytes ≡ bytesOf bs

@@ -1,0 +1,62 @@
+-- Parts of a set of jobs.
+use Prim.Native.Nat.{ℕ, _≤_, _<_}
+use mathlib.Core.Path.{_≡_}
+use mathlib.Core.List.{List, [], _∷_}
+use mathlib.Core.Bool.{Bool, true, false, _&&_, not}
+use lib.ListN.{length, take}
+use Rattle.poset.specs.Order.{Rel}
+use Rattle.relation.specs.Table.{has, members, Least}
+
+-- a path of near jobs, all but the first in S
+pub data Path (near : Rel) (S : ℕ → Type 0) (x : ℕ) : ℕ → Type 0 where
+  start : Path near S x x
+  next : {y v : ℕ} → Path near S x y → S v → near y v ≡ true → Path near S x v
+
+-- the part of a set that x falls to: it is joined to x, and near to nothing else of the set
+pub record PartOf (near : Rel) (s : List ℕ) (x : ℕ) (part : List ℕ) : Type 0 where
+  pub within : (v : ℕ) → has part v ≡ true → has s v ≡ true
+  pub own : has part x ≡ true
+  pub far : (u v : ℕ) → has part u ≡ true → has s v ≡ true → has part v ≡ false → near u v ≡ false
+  pub joined : (u : ℕ) → has part u ≡ true → Path near (λ v. has part v ≡ true) x u
+
+-- a set of jobs below 128
+abbrev pub Jobs : List ℕ → Type 0
+Jobs s = (v : ℕ) → has s v ≡ true → v < 128
+
+-- irreflexive and transitive
+pub record Partial (r : Rel) : Type 0 where
+  pub irreflexive : (u : ℕ) → r u u ≡ false
+  pub transitive : (u v w : ℕ) → r u v ≡ true → r v w ≡ true → r u w ≡ true
+
+-- x is a job of s, and none of s is before it (under holds what is before what)
+pub record First (under : Rel) (s : List ℕ) (x : ℕ) : Type 0 where
+  pub small : x < 128
+  pub member : has s x ≡ true
+  pub first : (v : ℕ) → has s v ≡ true → under x v ≡ false
+
+-- where the next part starts: in a series at a first job, else at the smallest
+abbrev pub StartsAt : Rel → Bool → List ℕ → ℕ → Type 0
+StartsAt under true s x = First under s x
+StartsAt under false s x = Least s x
+
+-- s taken apart from left to right
+abbrev pub Splits : Rel → Rel → Bool → List ℕ → List (List ℕ) → Type 0
+Splits near under series s [] = (v : ℕ) → has s v ≡ false
+Splits near under series s (part ∷ parts) =
+    (x : ℕ)
+    × (rest : List ℕ)
+    × StartsAt under series s x
+    × PartOf near s x part
+    × ((v : ℕ) → has rest v ≡ (has s v && not (has part v)))
+    × Splits near under series rest parts
+
+-- the first count parts are s taken apart
+pub record Cut (near under : Rel) (series : Bool) (s : List ℕ) (parts : List (List ℕ)) (count : ℕ) : Type 0 where
+  pub size : length parts ≡ 128
+  pub few : count ≤ length (members s)
+  pub these : Splits near under series s (take count parts)
+
+-- the relation that keeps jobs together in a part: of a series group the incomparable ones, of a parallel group the comparable ones
+abbrev pub closeOf : Bool → Rel → Rel → Rel
+closeOf true tied free = free
+closeOf false tied free = tied

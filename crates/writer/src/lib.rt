@@ -1,0 +1,5 @@
+//! The record of an order: its canonical tree, found from the closed table, and the tree's bytes.
+mod pack;
+mod parts;
+mod tree;
+mod writing;

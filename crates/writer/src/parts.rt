@@ -1,0 +1,90 @@
+//! A set of jobs taken apart: its connected parts under a relation.
+use relation::set;
+ghost use Prim.Native.Nat.{ℕ, _<_};
+ghost use mathlib.Core.Path.{_≡_};
+ghost use mathlib.Core.Bool.{true, false};
+ghost use lib.ListN.{length};
+ghost use Rattle.relation.specs.Table.{has, holds};
+ghost use Rattle.poset.specs.Lists.{any, below};
+ghost use Rattle.writer.specs.Parts.{Jobs, PartOf, Partial, First, StartsAt, Cut};
+
+// The part of a set that x falls to: jobs that near joins stay together.
+fn part_of(near: &[[u64; 2]; 128], s: [u64; 2], x: usize) -> [u64; 2]
+    requires { ⌜ Jobs s ⌝ }
+    requires { ⌜ has s x ≡ true ⌝ }
+    ensures { λ r. ⌜ PartOf (holds (now (near .entry))) s x r ⌝ }
+{
+    let mut todo = set::only(x);
+    let mut rest = set::difference(s, todo);
+    while set::inhabited(rest) {
+        if !set::inhabited(todo) {
+            return set::difference(s, rest);
+        }
+        let y = set::smallest(todo);
+        let found = set::intersection(near[y], rest);
+        let others = set::without_smallest(todo);
+        let more = set::union(others, found);
+        let fewer = set::difference(rest, found);
+        todo = more;
+        rest = fewer;
+    }
+    s
+}
+
+// A job of s that no job of s is before.
+fn first_of(under: &[[u64; 2]; 128], s: [u64; 2]) -> usize
+    requires { ⌜ Jobs s ⌝ }
+    requires { ⌜ any (has s) (below 128) ≡ true ⌝ }
+    requires { ⌜ Partial (holds (now under)) ⌝ }
+    ensures { λ r. ⌜ First (holds (now (under .entry))) s r ⌝ }
+{
+    let mut x = set::smallest(s);
+    let mut ahead = set::intersection(under[x], s);
+    while set::inhabited(ahead) {
+        let y = set::smallest(ahead);
+        let fewer = set::intersection(under[y], s);
+        x = y;
+        ahead = fewer;
+    }
+    x
+}
+
+// Where the next part starts.
+fn start_of(under: &[[u64; 2]; 128], series: bool, s: [u64; 2]) -> usize
+    requires { ⌜ Jobs s ⌝ }
+    requires { ⌜ any (has s) (below 128) ≡ true ⌝ }
+    requires { ⌜ Partial (holds (now under)) ⌝ }
+    ensures { λ r. ⌜ StartsAt (holds (now (under .entry))) series s r ⌝ }
+{
+    if series {
+        first_of(under, s)
+    } else {
+        set::smallest(s)
+    }
+}
+
+// The parts of a set, one after another, and how many there are.
+pub fn split(
+    near: &[[u64; 2]; 128],
+    under: &[[u64; 2]; 128],
+    series: bool,
+    s: [u64; 2],
+    parts: &mut [[u64; 2]; 128],
+) -> usize
+    requires { ⌜ Jobs s ⌝ }
+    requires { ⌜ Partial (holds (now under)) ⌝ }
+    requires { ⌜ length (now parts) ≡ 128 ⌝ }
+    ensures { λ r. ⌜ Cut (holds (now (near .entry))) (holds (now (under .entry))) series s (now (parts .exit)) r ⌝ }
+{
+    let mut left = s;
+    let mut count = 0;
+    while set::inhabited(left) {
+        let x = start_of(under, series, left);
+        let part = part_of(near, left, x);
+        let fewer = set::difference(left, part);
+        parts[count] = part;
+        left = fewer;
+        count += 1;
+    }
+    count
+}

@@ -1,0 +1,279 @@
+//! The canonical tree of an order, written as its fields, node before children, from a stack of sets still to be taken apart.
+use crate::parts;
+use relation::set;
+ghost use Prim.Native.Nat.{ℕ, _+_, _-_, _<_, _≤_};
+ghost use mathlib.Core.Path.{_≡_};
+ghost use mathlib.Core.Bool.{true, false, _&&_, _||_, not};
+ghost use lib.Dec.{eqb, ltb};
+ghost use mathlib.Core.List.{List, _++_, map};
+ghost use lib.ListN.{length, take, set};
+ghost use Rattle.relation.specs.Table.{has, members, holds, Inside};
+ghost use Rattle.poset.specs.Order.{Strict};
+ghost use Rattle.poset.specs.Decompose.{treeOf};
+ghost use Rattle.writer.specs.Tokens.{ShapeOf};
+ghost use Rattle.writer.specs.Parts.{Jobs, Partial, Cut, closeOf};
+ghost use Rattle.writer.specs.Stack.{entries, jobsOf, spreadOut, startAt, Stacks, groupField};
+
+// The parts of a group onto the stack, the first on top: each with its start in the reverse sequence and with the kind of group
+// that it is to become. A series goes from left to right there, a parallel group from right to left.
+fn push(
+    parts: &[[u64; 2]; 128],
+    count: usize,
+    series: bool,
+    start: usize,
+    whole: usize,
+    stack: &mut [[u64; 2]; 128],
+    starts: &mut [usize; 128],
+    kinds: &mut [bool; 128],
+    height: usize,
+) -> usize
+    requires { ⌜ (count ≤ 128) × (height + count ≤ 128) × (start + whole ≤ 128) ⌝ }
+    requires { ⌜ (length (now parts) ≡ 128) × (jobsOf (take count (now parts)) ≡ whole) ⌝ }
+    requires { ⌜ Stacks (now stack) (now starts) (now kinds) ⌝ }
+    ensures { λ r. ⌜ r ≡ height + count ⌝ }
+    ensures { λ r. ⌜ Stacks (now (stack .exit)) (now (starts .exit)) (now (kinds .exit)) ⌝ }
+    ensures { λ r. ⌜ entries (now (stack .exit)) (now (starts .exit)) (now (kinds .exit)) (height + count)
+        ≡ spreadOut series start whole (take count (now (parts .entry)))
+        ++ entries (now (stack .entry)) (now (starts .entry)) (now (kinds .entry)) height ⌝ }
+{
+    let mut i = count;
+    let mut top = height;
+    let mut later = 0;
+    while 0 < i {
+        i -= 1;
+        let part = parts[i];
+        let size = set::size(part);
+        starts[top] = start_of(series, start, whole, later, size);
+        stack[top] = part;
+        kinds[top] = !series;
+        later += size;
+        top += 1;
+    }
+    top
+}
+
+fn start_of(series: bool, start: usize, whole: usize, later: usize, size: usize) -> usize
+    requires { ⌜ start + whole ≤ 128 ⌝ }
+    requires { ⌜ later + size ≤ whole ⌝ }
+    ensures { λ r. ⌜ r ≡ startAt series start whole later size ⌝ }
+{
+    if series {
+        start + whole - later - size
+    } else {
+        start + later
+    }
+}
+
+// How far the tree is written: entries on the stack, fields, groups, and jobs in the forward sequence.
+pub struct Progress {
+    pub height: usize,
+    pub count: usize,
+    pub groups: usize,
+    pub placed: usize,
+}
+
+// A single job: its field, and its place in both sequences.
+fn put_leaf(
+    fields: &mut [u16; 256],
+    forward: &mut [u8; 128],
+    reverse: &mut [u8; 128],
+    x: usize,
+    start: usize,
+    p: Progress,
+) -> Progress
+    requires { ⌜ (x < 128) × (start < 128) × (p .count < 256) × (p .placed < 128) × (0 < p .height) ⌝ }
+    ensures { λ r. ⌜ r .height + 1 ≡ p .height ⌝ }
+    ensures { λ r. ⌜ (r .count ≡ p .count + 1) × (r .groups ≡ p .groups) × (r .placed ≡ p .placed + 1) ⌝ }
+    ensures { λ r. ⌜ (now (fields .exit) ≡ set (now (fields .entry)) (p .count) x)
+        × (now (forward .exit) ≡ set (now (forward .entry)) (p .placed) x)
+        × (now (reverse .exit) ≡ set (now (reverse .entry)) start x) ⌝ }
+{
+    let count = p.count;
+    let placed = p.placed;
+    fields[count] = (x % 65536) as u16;
+    forward[placed] = (x % 256) as u8;
+    reverse[start] = (x % 256) as u8;
+    Progress {
+        height: p.height - 1,
+        count: count + 1,
+        groups: p.groups,
+        placed: placed + 1,
+    }
+}
+
+// The field of a group: 256, 128 for a parallel group, and its children minus 1.
+fn group_field(series: bool, children: usize) -> u16
+    requires { ⌜ (0 < children) × (children ≤ 128) ⌝ }
+    ensures { λ r. ⌜ r ≡ groupField series (children - 1) ⌝ }
+{
+    if series {
+        ((256 + (children - 1)) % 65536) as u16
+    } else {
+        ((384 + (children - 1)) % 65536) as u16
+    }
+}
+
+// A group: its field.
+fn put_group(
+    fields: &mut [u16; 256],
+    series: bool,
+    children: usize,
+    p: Progress,
+    height: usize,
+) -> Progress
+    requires { ⌜ (0 < children) × (children ≤ 128) × (p .count < 256) × (p .groups < 256) ⌝ }
+    ensures { λ r. ⌜ (r .height ≡ height) × (r .count ≡ p .count + 1) × (r .groups ≡ p .groups + 1) × (r .placed ≡ p .placed) ⌝ }
+    ensures { λ r. ⌜ now (fields .exit) ≡ set (now (fields .entry)) (p .count) (groupField series (children - 1)) ⌝ }
+{
+    let count = p.count;
+    fields[count] = group_field(series, children);
+    Progress {
+        height,
+        count: count + 1,
+        groups: p.groups + 1,
+        placed: p.placed,
+    }
+}
+
+// The parts of a set for a group of this kind.
+fn split_as(
+    tied: &[[u64; 2]; 128],
+    free: &[[u64; 2]; 128],
+    under: &[[u64; 2]; 128],
+    series: bool,
+    s: [u64; 2],
+    parts: &mut [[u64; 2]; 128],
+) -> usize
+    requires { ⌜ Jobs s ⌝ }
+    requires { ⌜ Partial (holds (now under)) ⌝ }
+    requires { ⌜ length (now parts) ≡ 128 ⌝ }
+    ensures { λ r. ⌜ Cut (closeOf series (holds (now (tied .entry))) (holds (now (free .entry)))) (holds (now (under .entry))) series s
+        (now (parts .exit)) r ⌝ }
+{
+    if series {
+        parts::split(free, under, true, s, parts)
+    } else {
+        parts::split(tied, under, false, s, parts)
+    }
+}
+
+// Which jobs are comparable, among those below n.
+fn comparable(after: &[[u64; 2]; 128], under: &[[u64; 2]; 128], n: usize) -> [[u64; 2]; 128]
+    requires { ⌜ n ≤ 128 ⌝ }
+    ensures { λ r. ⌜ ((u v : ℕ) → u < n → holds r u v ≡ (holds (now (after .entry)) u v || holds (now (under .entry)) u v)) ⌝ }
+{
+    let mut r = [[0; 2]; 128];
+    for u in 0..n {
+        r[u] = set::union(after[u], under[u]);
+    }
+    r
+}
+
+// Which jobs are incomparable, among those below n.
+fn incomparable(tied: &[[u64; 2]; 128], n: usize) -> [[u64; 2]; 128]
+    requires { ⌜ n ≤ 128 ⌝ }
+    ensures { λ r. ⌜ ((u v : ℕ) → u < n → holds r u v ≡ (ltb v n && (not (eqb u v) && not (holds (now (tied .entry)) u v)))) ⌝ }
+{
+    let all = set::all_below(n);
+    let mut r = [[0; 2]; 128];
+    for u in 0..n {
+        let others = set::difference(all, set::only(u));
+        r[u] = set::difference(others, tied[u]);
+    }
+    r
+}
+
+// The canonical tree of an order: whether there is one, its fields and groups, and the two sequences.
+pub struct Shape {
+    pub ok: bool,
+    pub fields: [u16; 256],
+    pub count: usize,
+    pub groups: usize,
+    pub forward: [u8; 128],
+    pub reverse: [u8; 128],
+}
+
+fn no_shape() -> Shape
+    ensures { λ r. ⌜ r .ok ≡ false ⌝ }
+{
+    Shape {
+        ok: false,
+        fields: [0; 256],
+        count: 0,
+        groups: 0,
+        forward: [0; 128],
+        reverse: [0; 128],
+    }
+}
+
+// A set of two jobs or more that cannot be taken apart, as its kind asks, has an N.
+pub fn shape_of(after: &[[u64; 2]; 128], under: &[[u64; 2]; 128], n: usize) -> Shape
+    requires { ⌜ (0 < n) × (n ≤ 128) ⌝ }
+    requires { ⌜ Strict n (holds (now after)) ⌝ }
+    requires { ⌜ Inside n (now after) ⌝ }
+    requires { ⌜ ((u v : ℕ) → holds (now under) u v ≡ holds (now after) v u) ⌝ }
+    ensures { λ r. ⌜ ShapeOf (treeOf n (holds (now (after .entry)))) r ⌝ }
+{
+    let tied = comparable(after, under, n);
+    let free = incomparable(&tied, n);
+    let all = set::all_below(n);
+    let mut parts = [[0; 2]; 128];
+    let first = split_as(&tied, &free, under, true, all, &mut parts);
+    let mut stack = [[0; 2]; 128];
+    let mut starts = [0; 128];
+    let mut kinds = [false; 128];
+    stack[0] = all;
+    kinds[0] = 1 < first;
+    let mut fields = [0; 256];
+    let mut forward = [0; 128];
+    let mut reverse = [0; 128];
+    let mut p = Progress {
+        height: 1,
+        count: 0,
+        groups: 0,
+        placed: 0,
+    };
+    while 0 < p.height {
+        let top = p.height - 1;
+        let s = stack[top];
+        let size = set::size(s);
+        if size == 1 {
+            let next = put_leaf(
+                &mut fields,
+                &mut forward,
+                &mut reverse,
+                set::smallest(s),
+                starts[top],
+                p,
+            );
+            p = next;
+        } else {
+            let series = kinds[top];
+            let count = split_as(&tied, &free, under, series, s, &mut parts);
+            if count < 2 {
+                return no_shape();
+            }
+            let height = push(
+                &parts,
+                count,
+                series,
+                starts[top],
+                size,
+                &mut stack,
+                &mut starts,
+                &mut kinds,
+                top,
+            );
+            let next = put_group(&mut fields, series, count, p, height);
+            p = next;
+        }
+    }
+    Shape {
+        ok: true,
+        fields,
+        count: p.count,
+        groups: p.groups,
+        forward,
+        reverse,
+    }
+}
