@@ -2,4 +2,4 @@
 mod pack;
 mod parts;
 mod tree;
-mod writing;
+pub mod writing;

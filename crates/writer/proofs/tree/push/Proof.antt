@@ -42,7 +42,7 @@ start-of-requires c κs =
     let whole = fits-whole (a .parts .now) (a .count) (a .series) (a .start) (a .whole)
     (entries (a .stack .now) (a .starts .now) (a .kinds .now) (a .height)) (a .height) (l .stack) (l .starts) (l .kinds) (l .i) (l .top) (l .later)
     (l .i - 1) (l .inv) (omega arith) (omega (arith, s .pre .1 .0 .0)) (s .pre .1 .0 .1) in
-    (s .pre .0 .2, omega (arith, whole, c .size .ensures))
+    (s .pre .0 .2, omega (arith, whole, c .size .ensures .0))
 
 mul-starts : tie.Need-mul-starts Inv-loop μ-loop
 mul-starts c = omega arith
@@ -67,7 +67,7 @@ add-later c =
     let whole = fits-whole (a .parts .now) (a .count) (a .series) (a .start) (a .whole)
     (entries (a .stack .now) (a .starts .now) (a .kinds .now) (a .height)) (a .height) (l .stack) (l .starts) (l .kinds) (l .i) (l .top) (l .later)
     (l .i - 1) (l .inv) (omega arith) (omega (arith, s .pre .1 .0 .0)) (s .pre .1 .0 .1) in
-    record { fits = omega (arith, whole, c .before .size .ensures, s .pre .0 .2) }
+    record { fits = omega (arith, whole, c .before .size .ensures .0, s .pre .0 .2) }
 
 add-top : tie.Need-add-top Inv-loop μ-loop
 add-top c = omega arith
@@ -82,7 +82,7 @@ loop-again c =
     let a = s .args in
     push-next (a .parts .now) (a .count) (a .series) (a .start) (a .whole)
     (entries (a .stack .now) (a .starts .now) (a .kinds .now) (a .height)) (a .height) (l .stack) (l .starts) (l .kinds) (l .i) (l .top) (l .later)
-    (l .i - 1) (l .inv) (omega arith) (omega (arith, s .pre .1 .0 .0)) (c .before .size .result) (c .start-of .result) (c .before .size .ensures)
+    (l .i - 1) (l .inv) (omega arith) (omega (arith, s .pre .1 .0 .0)) (c .before .size .result) (c .start-of .result) (c .before .size .ensures .0)
     (c .start-of .ensures) (s .pre .0 .1)
 
 returns : tie.Need-returns Inv-loop μ-loop

@@ -142,7 +142,7 @@ loop-again c =
       l .inv .0,
       l .inv .1,
       leaf-turn _ (l .inv .0 .few) _ _ _ _ _ (l .inv .2) (l .p .height - 1) (omega arith) _
-          (single _ _ j (sym (c .before .before .before .before .before .before .size .ensures) ∙ c .before .before .before .before .before .if2 .taken))
+          (single _ _ j (sym (c .before .before .before .before .before .before .size .ensures .0) ∙ c .before .before .before .before .before .if2 .taken))
           (l .inv .0 .strict .irreflexive _ (ok .small _ (j .member)))
           _ (e .0) (e .1 .0 .0) (e .1 .0 .1) (e .1 .0 .2) _ _ _ (e .1 .1 .0) (e .1 .1 .1) (e .1 .1 .2),
     )
@@ -172,7 +172,7 @@ returns c =
     let ok = top-ok _ (t .few) _ _ _ _ _ (l .inv .2) (l .p .height - 1) (omega arith) .0 in
     let cut = c .before .before .split-as2 .ensures in
     let joined = cut-joined cut (omega (arith, ok .fits, t .few)) (c .before .if3 .taken) (ok .some) in
-    let none = no-tree _ _ (t .strict) (stuck _ (t .few) _ _ _ _ (t .strict) (t .turned) (t .tied-is) (t .free-is) _ ok (λ e. c .before .before .before .before .before .before .if2 .left (c .before .before .before .before .before .before .before .size .ensures ∙ e)) joined) in
+    let none = no-tree _ _ (t .strict) (stuck _ (t .few) _ _ _ _ (t .strict) (t .turned) (t .tied-is) (t .free-is) _ ok (λ e. c .before .before .before .before .before .before .if2 .left (c .before .before .before .before .before .before .before .size .ensures .0 ∙ e)) joined) in
     subst (λ o. ShapeOf o (c .no-shape .result)) (sym none) (c .no-shape .ensures)
 
 -- src/tree.rt:262:17
@@ -195,7 +195,7 @@ push-requires c κs =
     let ok = top-ok _ (t .few) _ _ _ _ _ (l .inv .2) (l .p .height - 1) (omega arith) .0 in
     let rm = room _ (t .few) _ _ _ _ _ (l .inv .2) (l .p .height - 1) (omega arith) in
     let cut = c .before .before .before .before .before .split-as2 .ensures in
-    let size = c .before .before .before .before .before .before .before .before .before .before .size .ensures in (
+    let size = c .before .before .before .before .before .before .before .before .before .before .size .ensures .0 in (
       (omega (arith, cut .few, rm .0, t .few), omega (arith, cut .few, rm .0, t .few), omega (arith, size, ok .fits, t .few)),
       ((cut .size, cut-jobs cut ∙ sym size), l .inv .2 .stacks),
     )
@@ -227,7 +227,7 @@ loop-again-2 c =
       t,
       cut .size,
       group-cut _ (t .few) _ _ _ _ _ (l .inv .2) (l .p .height - 1) (omega (arith, c .before .before .before .before .before .before .before .before .before .before .before .before .before .before .before .before .if1 .taken)) _ (t .strict) (t .turned)
-          (alike _ (t .few) _ _ _ _ (t .strict) (t .turned) (t .tied-is) (t .free-is) (getD (l .kinds) (l .p .height - 1) false)) cut (c .before .before .before .before .before .before .before .if3 .left) _ _ _ _ (push .1 .0) _ (c .before .before .before .before .before .before .before .before .before .before .before .before .before .size .ensures) (push .1 .1) (e .0 .0 ∙ push .0)
+          (alike _ (t .few) _ _ _ _ (t .strict) (t .turned) (t .tied-is) (t .free-is) (getD (l .kinds) (l .p .height - 1) false)) cut (c .before .before .before .before .before .before .before .if3 .left) _ _ _ _ (push .1 .0) _ (c .before .before .before .before .before .before .before .before .before .before .before .before .before .size .ensures .0) (push .1 .1) (e .0 .0 ∙ push .0)
           (e .0 .1) (e .0 .2) (e .0 .3) _ (e .1),
     )
 
