@@ -102,7 +102,13 @@ module _ (t : List (List ℕ)) (n : ℕ) where
 
   module _ (before : List ℕ) where
     pub laid-none : Laid before before 0 0
-    laid-none = record { within = zero-le; left = ap (λ a. sets before 0 (arcBytes a)) (sym rest-start); room = omega (arith, ap length rest-start); size = refl }
+    laid-none =
+        record {
+          within = zero-le;
+          left = ap (λ a. sets before 0 (arcBytes a)) (sym rest-start);
+          room = omega (arith, ap length rest-start);
+          size = refl;
+        }
 
     module _ (area : List ℕ) (at u : ℕ) (c : Laid before area at u) where
       pub laid-end : 2 * length (pairsOf n (holds t)) ≤ length before → n ≤ u → area ≡ overlay (arcBytes (pairsOf n (holds t))) before

@@ -15,7 +15,8 @@ use lib.Bits.{bitAnd, bitOr, or-add-and, and-le-l, and-le-r}
 use lib.Count.{trailingZeros, ones, ones-le}
 use borrow.Author.Tests.{lt-ltb, le-ltb, eq-eqb, ne-eqb, ltb-true, eqb-true}
 use Rattle.poset.specs.Lists.{any, keep, upFrom, below}
-use Rattle.poset.proofs.Laws.{clash, false-unless, same-test, any-hit, any-found, any-miss, any-none, keep-yes, keep-not, keep-mem, below-mem, mem-below, mem-upFrom}
+use Rattle.poset.proofs.Laws.{clash, false-unless, same-test, any-hit, any-found, any-miss, any-none}
+use Rattle.poset.proofs.Laws.{keep-yes, keep-not, keep-mem, below-mem, mem-below, mem-upFrom}
 use Rattle.relation.specs.Table.{bit, has, members, Least}
 use Rattle.relation.proofs.Lists.{and-true, and-false, and-comm, keep-append, keep-none, keep-agree, keep-shift, below-add, any-after, keep-from}
 use Rattle.relation.proofs.Words.{bit-tested, bit-and, bit-or, bit-complement, bit-zero, bit-power, bit-ones, Lowest, lowest, ones-count}
@@ -278,14 +279,17 @@ module _ (s : List ℕ) (r : Row s) where
   unfolding members below
   size =
       ap₂ _+_ (ones-count 64 (getD s 0 0) (r .low .fits) ∙ sym low) (ones-count 64 (getD s 1 0) (r .high .fits) ∙ sym high)
-      ∙ sym (ap length (ap (keep (has s)) (below-add 64 64) ∙ keep-append (has s) (below 64) (upFrom 64 64)) ∙ length-append (keep (has s) (below 64)) (keep (has s) (upFrom 64 64)))
+      ∙ sym (ap length (ap (keep (has s)) (below-add 64 64) ∙ keep-append (has s) (below 64) (upFrom 64 64))
+      ∙ length-append (keep (has s) (below 64)) (keep (has s) (upFrom 64 64)))
     where
       low : length (keep (has s) (below 64)) ≡ length (keep (bit (getD s 0 0)) (below 64))
       low = ap length (keep-agree (has s) (bit (getD s 0 0)) (below 64) (λ i m. has-low s i (mem-below 64 m)))
 
       high : length (keep (has s) (upFrom 64 64)) ≡ length (keep (bit (getD s 1 0)) (below 64))
       high =
-          ap length (keep-shift (has s) 64 0 64 ∙ ap (map (λ i. 64 + i)) (keep-agree (λ i. has s (64 + i)) (bit (getD s 1 0)) (below 64) (λ i m. has-high s i (mem-below 64 m))))
+          ap length
+          (keep-shift (has s) 64 0 64
+          ∙ ap (map (λ i. 64 + i)) (keep-agree (λ i. has s (64 + i)) (bit (getD s 1 0)) (below 64) (λ i m. has-high s i (mem-below 64 m))))
           ∙ length-map (keep (bit (getD s 1 0)) (below 64)) (λ i. 64 + i)
 
 -- the members, one after the other

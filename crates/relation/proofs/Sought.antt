@@ -77,12 +77,14 @@ module _ (r : Rel) (a b : ℕ) where
 
       forth : isN r a b c d ≡ true → fourth c d ≡ true
       forth e =
-          let bd-on = and-right (r b c) (r b d && (ab-free && (cd-free && ad-free))) (and-right (r a c) (r b c && (r b d && (ab-free && (cd-free && ad-free)))) e) in
+          let bc-on = and-right (r a c) (r b c && (r b d && (ab-free && (cd-free && ad-free)))) e in
+          let bd-on = and-right (r b c) (r b d && (ab-free && (cd-free && ad-free))) bc-on in
           let apart-on = and-right ab-free (cd-free && ad-free) (and-right (r b d) (ab-free && (cd-free && ad-free)) bd-on) in
           let cd = free r c d (and-left cd-free ad-free apart-on) in
           let ad = free r a d (and-right cd-free ad-free apart-on) in
           and-intro (r b d && not (r a d || r d a)) (not (r c d || r d c))
-          (and-intro (r b d) (not (r a d || r d a)) (and-left (r b d) (ab-free && (cd-free && ad-free)) bd-on) (not-either (r a d) (r d a) (ad .forth) (ad .back)))
+          (and-intro (r b d) (not (r a d || r d a)) (and-left (r b d) (ab-free && (cd-free && ad-free)) bd-on)
+          (not-either (r a d) (r d a) (ad .forth) (ad .back)))
           (not-either (r c d) (r d c) (cd .forth) (cd .back))
 
       back : fourth c d ≡ true → isN r a b c d ≡ true
@@ -131,7 +133,8 @@ module _ (n : ℕ) (r : Rel) (a b : ℕ) where
         with-c : (c : ℕ) → (r a c && r b c) ≡ true → at-c n r a b c ≡ none
         with-c c t =
             none-below (at-d n r a b c) n .1 λ d m.
-            only-if-none _ _ .1 (n-fourth r a b c d apart t ∙ ap (λ q. q && not (comparable r c d)) (sym (h d) ∙ any-miss (has ds) (below 128) e (below-mem (lt-of-lt-of-le m l))))
+            let gone = sym (h d) ∙ any-miss (has ds) (below 128) e (below-mem (lt-of-lt-of-le m l)) in
+            only-if-none _ _ .1 (n-fourth r a b c d apart t ∙ ap (λ q. q && not (comparable r c d)) gone)
 
     pub above-first : (cs : List ℕ) → ((c : ℕ) → has cs c ≡ (r a c && r b c)) → Above n r a b cs
     above-first cs h =

@@ -17,31 +17,31 @@ use Rattle.relation.proofs.Lists.{or-false}
 use Rattle.relation.proofs.Tables.{row-here, row-there}
 
 -- a pass through k that has come to row i
-pub record Passed (t₀ t : List (List ℕ)) (k n i : ℕ) : Type 0 where
+pub record Passed (t₀ : List (List ℕ)) (after : List ℕ) (t : List (List ℕ)) (k n i : ℕ) : Type 0 where
   pub within : i ≤ n
   pub rows : length t ≡ 128
-  pub done : (u v : ℕ) → u < i → holds t u v ≡ (holds t₀ u v || (holds t₀ u k && holds t₀ k v))
+  pub done : (u v : ℕ) → u < i → holds t u v ≡ (holds t₀ u v || (holds t₀ u k && has after v))
   pub left : (u v : ℕ) → i ≤ u → holds t u v ≡ holds t₀ u v
 
-module _ (t₀ : List (List ℕ)) (k n : ℕ) where
-  pub passed-none : length t₀ ≡ 128 → Passed t₀ t₀ k n 0
+module _ (t₀ : List (List ℕ)) (after : List ℕ) (k n : ℕ) where
+  pub passed-none : length t₀ ≡ 128 → Passed t₀ after t₀ k n 0
   passed-none h = record { within = omega arith; rows = h; done = λ u v l. absurd (omega arith); left = λ u v l. refl }
 
-  module _ (t : List (List ℕ)) (i : ℕ) (p : Passed t₀ t k n i) where
-    pub passed-end : n ≤ i → Inside n t₀ → (u v : ℕ) → holds t u v ≡ (holds t₀ u v || (holds t₀ u k && holds t₀ k v))
+  module _ (t : List (List ℕ)) (i : ℕ) (p : Passed t₀ after t k n i) where
+    pub passed-end : n ≤ i → Inside n t₀ → (u v : ℕ) → holds t u v ≡ (holds t₀ u v || (holds t₀ u k && has after v))
     passed-end l inside u v = by (decLt u n)
       where
-        by : Dec (u < n) → holds t u v ≡ (holds t₀ u v || (holds t₀ u k && holds t₀ k v))
+        by : Dec (u < n) → holds t u v ≡ (holds t₀ u v || (holds t₀ u k && has after v))
         by (yes h) = p .done u v (omega arith)
         by (no h) =
             let e : holds t₀ u k ≡ false = false-unless _ (λ d. h (inside u k d .0)) in
-            p .left u v (omega arith) ∙ sym (ap (λ b. holds t₀ u v || (b && holds t₀ k v)) e ∙ or-false (holds t₀ u v))
+            p .left u v (omega arith) ∙ sym (ap (λ b. holds t₀ u v || (b && has after v)) e ∙ or-false (holds t₀ u v))
 
     pub passed-next
-        : i < n → n ≤ 128 → (row after : List ℕ) (test : Bool) → ((v : ℕ) → has row v ≡ (has (getD t i []) v || (test && has after v)))
-        → test ≡ has (getD t i []) k → ((v : ℕ) → has after v ≡ holds t₀ k v) → Passed t₀ (set t i row) k n (i + 1)
+        : i < n → n ≤ 128 → (row : List ℕ) (test : Bool) → ((v : ℕ) → has row v ≡ (has (getD t i []) v || (test && has after v)))
+        → test ≡ has (getD t i []) k → Passed t₀ after (set t i row) k n (i + 1)
     unfolding holds
-    passed-next l m row after test h e a =
+    passed-next l m row test h e =
         record {
           within = omega arith;
           rows = length-set t i row ∙ p .rows;
@@ -49,10 +49,10 @@ module _ (t₀ : List (List ℕ)) (k n : ℕ) where
           left = λ u v d. there u v (λ c. omega arith) ∙ p .left u v (omega arith);
         }
       where
-        here : (v : ℕ) → holds (set t i row) i v ≡ (holds t₀ i v || (holds t₀ i k && holds t₀ k v))
+        here : (v : ℕ) → holds (set t i row) i v ≡ (holds t₀ i v || (holds t₀ i k && has after v))
         here v =
             row-here t i row (rw (p .rows) (omega arith)) v ∙ h v
-            ∙ ap₂ (λ b c. b || c) (p .left i v (omega arith)) (ap₂ (λ b c. b && c) (e ∙ p .left i k (omega arith)) (a v))
+            ∙ ap₂ (λ b c. b || c) (p .left i v (omega arith)) (ap (λ b. b && has after v) (e ∙ p .left i k (omega arith)))
 
         there : (u v : ℕ) → (u ≡ i → ⊥) → holds (set t i row) u v ≡ holds t u v
         there = row-there t i row
@@ -78,8 +78,9 @@ module _ (t₀ : List (List ℕ)) (n : ℕ) where
     closed-inside inside = closure-inside n t₀ t k inside (p .runs)
 
     pub closed-next
-        : k < n → (s : List (List ℕ)) → length s ≡ 128 → ((u v : ℕ) → holds s u v ≡ (holds t u v || (holds t u k && holds t k v)))
+        : k < n → (s : List (List ℕ)) → length s ≡ 128 → ((u v : ℕ) → holds s u v ≡ (holds t u v || (holds t u k && has (getD t k []) v)))
         → Closed t₀ s n (k + 1)
+    unfolding holds
     closed-next l s m h =
         let e : k + 1 ≡ suc k = add-one k in
         record { within = omega arith; rows = m; runs = λ u v. h u v ∙ rw (e, via-step, ← p .runs u v, ← p .runs u k, ← p .runs k v) }

@@ -10,18 +10,17 @@ ghost use Rattle.poset.specs.Order.{via, firstOnCycle};
 ghost use Rattle.relation.specs.Table.{has, holds, Inside};
 ghost use Rattle.relation.specs.Arcs.{found};
 
-// One pass: what is before k is before all that k is before.
-fn pass(t: &mut [[u64; 2]; 128], k: usize, n: usize)
+// One pass: the jobs after k into the row of each job that is before k.
+fn pass(t: &mut [[u64; 2]; 128], k: usize, after: [u64; 2], n: usize)
     requires { ⌜ (n ≤ 128) × (k < n) × (length (now t) ≡ 128) ⌝ }
     requires { ⌜ Inside n (now t) ⌝ }
     ensures { λ _. ⌜ length (now (t .exit)) ≡ 128 ⌝ }
     ensures { λ _. ⌜ ((u v : ℕ) → holds (now (t .exit)) u v
-        ≡ (holds (now (t .entry)) u v || (holds (now (t .entry)) u k && holds (now (t .entry)) k v))) ⌝ }
+        ≡ (holds (now (t .entry)) u v || (holds (now (t .entry)) u k && has after v))) ⌝ }
 {
-    let after = t[k];
-    for u in 0..n {
-        let row = t[u];
-        t[u] = set::union_if(set::contains(row, k), row, after);
+    for i in 0..n {
+        let row = t[i];
+        t[i] = set::union_if(set::contains(row, k), row, after);
     }
 }
 
@@ -33,7 +32,8 @@ pub fn closure(t: [[u64; 2]; 128], n: usize) -> [[u64; 2]; 128]
 {
     let mut r = t;
     for k in 0..n {
-        pass(&mut r, k, n);
+        let after = r[k];
+        pass(&mut r, k, after, n);
     }
     r
 }

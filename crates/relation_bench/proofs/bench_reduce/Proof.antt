@@ -1,3 +1,4 @@
+-- `relation_bench::bench_reduce` meets its contract.
 use mathlib.Core.Path.{fun-ext}
 use Rattle.poset.specs.Order.{reduction}
 use Rattle.relation.proofs.Chain.{reduced-inside}

@@ -1,3 +1,4 @@
+-- `relation_bench::closed` meets its contract.
 use native.Mathlib.Omega.{arith}
 use Rattle.relation.specs.Arcs.{pairs}
 use Rattle.relation.proofs.Chain.{table-inside, closure-before}

@@ -1,3 +1,4 @@
+-- `relation::arcs::first_loop` meets its contract.
 use Prim.Native.Nat.{_-_}
 use native.Mathlib.Omega.{arith}
 use lib.ListN.{length}
@@ -38,7 +39,8 @@ shared-slice-read-if1-2 c = search needs
 returns : tie.Need-returns Inv-loop μ-loop
 unfolding outside loop
 returns c =
-    searched-hit loop (c .before .before .before .before .before .args .arcs .now) (c .before .before .before .before .loop .i) (c .before .before .before .before .loop .inv) (omega arith) (eq-eqb _ _ (c .if1 .taken))
+    let q = c .before .before .before .before in
+    searched-hit loop (q .before .args .arcs .now) (q .loop .i) (q .loop .inv) (omega arith) (eq-eqb _ _ (c .if1 .taken))
 
 add-i : tie.Need-add-i Inv-loop μ-loop
 add-i c = search needs
@@ -49,7 +51,8 @@ loop-less c = omega arith
 loop-again : tie.Need-loop-again Inv-loop μ-loop
 unfolding outside loop
 loop-again c =
-    searched-next loop (c .before .before .before .before .before .args .arcs .now) (c .before .before .before .before .loop .i) (c .before .before .before .before .loop .inv) (omega arith) (ne-eqb _ _ (c .if1 .left))
+    let q = c .before .before .before .before in
+    searched-next loop (q .before .args .arcs .now) (q .loop .i) (q .loop .inv) (omega arith) (ne-eqb _ _ (c .if1 .left))
 
 returns-2 : tie.Need-returns-2 Inv-loop μ-loop
 returns-2 c = searched-end loop (c .before .before .args .arcs .now) (c .before .loop .i) (c .before .loop .inv) (omega arith)

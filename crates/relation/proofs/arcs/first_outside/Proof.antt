@@ -1,3 +1,4 @@
+-- `relation::arcs::first_outside` meets its contract.
 use Prim.Native.Nat.{_-_}
 use native.Mathlib.Omega.{arith}
 use lib.ListN.{length, getD}

@@ -1,3 +1,4 @@
+-- `relation::arcs::table_of` meets its contract.
 use Prim.Native.Nat.{ℕ}
 use mathlib.Core.List.{List}
 use Prim.Native.Nat.{_+_, _-_, _<_}

@@ -1,3 +1,4 @@
+-- `relation::order::first_on_cycle` meets its contract.
 use Prim.Native.Nat.{ℕ, _-_}
 use native.Mathlib.Omega.{arith}
 use mathlib.Core.Path.{sym, _∙_}

@@ -1,3 +1,4 @@
+-- `relation::order::mark` meets its contract.
 use mathlib.Core.Path.{sym, _∙_}
 use lib.ListN.{length}
 use Rattle.relation.specs.Table.{members}
@@ -51,14 +52,17 @@ without-smallest-requires : tie.Need-without-smallest-requires Inv-loop μ-loop
 without-smallest-requires c κs = let q = c .before .before .before in sym (q .before .inhabited .ensures) ∙ q .if1 .taken
 
 loop-less : tie.Need-loop-less Inv-loop μ-loop
-loop-less c = members-less (c .before .before .before .before .before .before .loop .rest) _ _ (c .before .before .before .smallest .ensures) (c .without-smallest .ensures)
+loop-less c =
+    let q = c .before .before .before in
+    members-less (q .before .before .before .loop .rest) _ _ (q .smallest .ensures) (c .without-smallest .ensures)
 
 loop-again : tie.Need-loop-again Inv-loop μ-loop
 loop-again c =
     let l = c .before .before .before .before .before .before .loop in
     let o = c .before .before .before .before .before .before .before in
     let a = o .before .args in
-    marked-next (a .t .now) (a .u) (a .jobs) (l .t) (l .rest) (l .inv) _ (c .before .before .before .smallest .ensures) (o .only .result) (c .before .union .result)
+    marked-next (a .t .now) (a .u) (a .jobs) (l .t) (l .rest) (l .inv) _ (c .before .before .before .smallest .ensures) (o .only .result)
+    (c .before .union .result)
     (c .without-smallest .result) (o .only .ensures) (c .before .union .ensures) (c .without-smallest .ensures)
 
 returns : tie.Need-returns Inv-loop μ-loop

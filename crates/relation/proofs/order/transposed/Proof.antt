@@ -1,3 +1,4 @@
+-- `relation::order::transposed` meets its contract.
 use Prim.Native.Nat.{_-_}
 use native.Mathlib.Omega.{arith}
 use Rattle.relation.proofs.Mirror.{Turned, turned-none, turned-next, turned-end}

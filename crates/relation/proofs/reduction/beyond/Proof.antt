@@ -1,3 +1,4 @@
+-- `relation::reduction::beyond` meets its contract.
 use mathlib.Core.Path.{refl, sym, _∙_}
 use Rattle.relation.proofs.Tables.{has-blank}
 use lib.ListN.{length}

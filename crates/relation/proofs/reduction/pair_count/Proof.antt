@@ -1,3 +1,4 @@
+-- `relation::reduction::pair_count` meets its contract.
 use Prim.Native.Nat.{_-_}
 use native.Mathlib.Omega.{arith}
 use Rattle.relation.proofs.Listing.{Counted, counted-none, counted-next, counted-end}

@@ -1,3 +1,4 @@
+-- `relation::reduction::reduced` meets its contract.
 use Rattle.poset.specs.Order.{covers}
 use Rattle.relation.specs.Table.{holds}
 use Rattle.relation.proofs.Tables.{Filled, filled-none, filled-next, filled-end}

@@ -1,3 +1,4 @@
+-- `relation::reduction::write_pairs` meets its contract.
 use Prim.Native.Nat.{_-_}
 use native.Mathlib.Omega.{arith}
 use Rattle.relation.proofs.Listing.{Laid, laid-none, laid-room, laid-next, laid-end}
@@ -27,7 +28,8 @@ write-row-requires c κs =
     let l = q .before .loop in
     let s = q .before .before .before in (
       search needs,
-      laid-room (s .args .t .now) (s .args .n) (s .args .area .now) (l .area) (l .at) (l .u) (l .inv) (s .pre .0) (s .pre .1 .0) (q .loop-test .taken) (s .pre .1 .1),
+      laid-room (s .args .t .now) (s .args .n) (s .args .area .now) (l .area) (l .at) (l .u) (l .inv) (s .pre .0) (s .pre .1 .0)
+          (q .loop-test .taken) (s .pre .1 .1),
     )
 
 add-u : tie.Need-add-u Inv-loop μ-loop

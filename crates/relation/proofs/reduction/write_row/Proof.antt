@@ -1,3 +1,4 @@
+-- `relation::reduction::write_row` meets its contract.
 use Rattle.relation.proofs.Sets.{members-less}
 use mathlib.Core.Path.{sym, _∙_}
 use lib.ListN.{length-set}

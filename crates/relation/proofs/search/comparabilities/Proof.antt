@@ -1,3 +1,4 @@
+-- `relation::search::comparabilities` meets its contract.
 use Prim.Native.Nat.{_-_}
 use native.Mathlib.Omega.{arith}
 use mathlib.Core.Path.{ap, _∙_}

@@ -1,3 +1,4 @@
+-- `relation::search::first_with_a` meets its contract.
 use mathlib.Core.Path.{sym, ap, ap₂, _∙_}
 use mathlib.Core.Bool.{_&&_, not}
 use lib.ListN.{length}

@@ -1,3 +1,4 @@
+-- `relation::search::first_with_b` meets its contract.
 use Prim.Native.Nat.{ℕ, _≤_}
 use native.Mathlib.Omega.{arith}
 use mathlib.Core.Path.{_≡_, sym, ap, _∙_}

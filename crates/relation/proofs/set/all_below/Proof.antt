@@ -1,3 +1,4 @@
+-- `relation::set::all_below` meets its contract.
 use borrow.Author.Needs.{needs}
 use Prim.Native.Nat.{_-_}
 use native.Mathlib.Omega.{arith}
@@ -23,7 +24,10 @@ returns : tie.Need-returns
 returns c = λ v. let n = c .before .args .n in rw (one-shifted n (omega arith)) (all-below n n 0 (omega arith) (omega arith) (omega arith) v)
 
 returns-2 : tie.Need-returns-2
-returns-2 c = λ v. let n = c .before .before .args .n in rw (one-shifted (n - 64) (omega arith)) (all-below n 64 (n - 64) (omega arith) (omega arith) (omega arith) v)
+returns-2 c =
+    λ v.
+    let n = c .before .before .args .n in
+    rw (one-shifted (n - 64) (omega arith)) (all-below n 64 (n - 64) (omega arith) (omega arith) (omega arith) v)
 
 returns-3 : tie.Need-returns-3
 returns-3 c = λ v. all-below (c .before .before .args .n) 64 64 (omega arith) (omega arith) (omega arith) v

@@ -1,3 +1,4 @@
+-- `relation::set::contains` meets its contract.
 use mathlib.Core.Logic.{inl, inr, ⊎-elim}
 use Rattle.relation.proofs.Sets.{has-tested}
 use borrow.Author.Needs.{needs}

@@ -1,3 +1,4 @@
+-- `relation::set::difference` meets its contract.
 use borrow.Author.Needs.{needs}
 use mathlib.Core.Path.{refl}
 use mathlib.Core.Bool.{_&&_, not}

@@ -1,3 +1,4 @@
+-- `relation::set::inhabited` meets its contract.
 use borrow.Author.Needs.{needs}
 use Rattle.relation.proofs.Sets.{inhabited}
 use Rattle.relation.proofs.set.inhabited.Statement.{statement}

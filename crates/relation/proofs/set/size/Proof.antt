@@ -1,3 +1,4 @@
+-- `relation::set::size` meets its contract.
 use borrow.Author.Needs.{needs}
 use native.Mathlib.Omega.{arith}
 use Rattle.relation.proofs.Sets.{Row, size, size-small}

@@ -1,3 +1,4 @@
+-- `relation::set::smallest` meets its contract.
 use borrow.Author.Needs.{needs}
 use native.Mathlib.Omega.{arith}
 use lib.ListN.{getD}
@@ -28,7 +29,10 @@ returns : tie.Need-returns
 returns c = smallest-low (c .before .args .t1) (record { two = search needs; low = search needs; high = search needs }) (c .if1 .taken)
 
 returns-2 : tie.Need-returns-2
-returns-2 c = let s = c .before .args .t1 in let r : Row s = record { two = search needs; low = search needs; high = search needs } in smallest-high s r (c .if1 .left) (other-word s r (c .before .pre) (c .if1 .left))
+returns-2 c =
+    let s = c .before .args .t1 in
+    let r : Row s = record { two = search needs; low = search needs; high = search needs } in
+    smallest-high s r (c .if1 .left) (other-word s r (c .before .pre) (c .if1 .left))
 
 pub smallest-spec : {M : Type 1} → statement M
 smallest-spec =

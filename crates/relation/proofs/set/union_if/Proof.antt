@@ -1,3 +1,4 @@
+-- `relation::set::union_if` meets its contract.
 use Prim.Native.Nat.{_-_, _^_}
 use mathlib.Core.Path.{_≡_}
 use mathlib.Core.Bool.{true, false, _&&_, _||_}
