@@ -3,7 +3,6 @@ use Prim.Native.Nat.{ℕ, suc, _+_, _-_, _*_, _≤_, _<_}
 use mathlib.Core.Path.{_≡_, _∙_}
 use mathlib.Core.List.{List}
 use native.Mathlib.Omega.{arith}
-use lib.ListN.{length}
 use Rattle.poset.specs.Tree.{Kind}
 use Rattle.record.specs.Bits.{bitsOf}
 use Rattle.record.proofs.Fields.{length-bits}
@@ -48,5 +47,5 @@ module _ (bytes : List ℕ) (n at m : ℕ) (seen next : List ℕ) (r : Ready byt
     )
 
 -- two parts linked
-pub call-linked : {p q : Part} → Bounded p → Bounded q → (p .last < 128) × (q .first < 128) × (p .groups ≤ 128) × (q .groups ≤ 128)
-call-linked a b = (a .lasts, b .firsts, omega (arith, a .few), omega (arith, b .few))
+pub call-linked : {p q : Part} → Bounded p → Bounded q → (p .last < 128) × (q .first < 128) × (p .groups < 128) × (q .groups < 128)
+call-linked a b = (a .lasts, b .firsts, a .few, b .few)

@@ -1,8 +1,8 @@
 -- A child of a group of kind k: a leaf, or a group of the other kind.
-use Prim.Native.Nat.{ℕ, zero, suc, _+_, _≤_, _<_}
-use mathlib.Core.Path.{_≡_, refl, sym, ap, ap₂, subst, _∙_}
+use Prim.Native.Nat.{ℕ, suc, _+_, _≤_, _<_}
+use mathlib.Core.Path.{_≡_, refl, sym, ap, subst, _∙_}
 use mathlib.Core.List.{List, [], _∷_, _++_, List·Memᴰ, List·Memᴰ·head, List·Memᴰ·eq-of-singleton}
-use mathlib.Core.Bool.{Bool, true, false}
+use mathlib.Core.Bool.{true, false}
 use mathlib.Core.Logic.{_⊎_, inl, inr, ⊎-elim}
 use native.Mathlib.Nat.{eq-or-lt-of-le}
 use native.Mathlib.Omega.{arith}
@@ -15,9 +15,10 @@ use Rattle.poset.proofs.Canonical.{least-in, least-le}
 use Rattle.record.specs.Bits.{bits}
 use Rattle.record.specs.Layout.{kindBit, moreChildren, treeBits, forestBits}
 use Rattle.record.proofs.Fields.{length-bits}
-use Rattle.record.proofs.Sizes.{Small, forest-groups}
+use Rattle.record.proofs.Sizes.{Small}
 use Rattle.reader.specs.Fields.{At, NodeAt, header}
-use Rattle.reader.specs.Parts.{Lists, Strand, alone, Free, Placed, Found, LeafRead, Grouped, ChildRead, ChildrenRead, Plain, PlainUnder, PlainChildren, ofTree, ofForest}
+use Rattle.reader.specs.Parts.{Lists, Strand, alone, Free, Placed, Found, LeafRead, Grouped, ChildRead, ChildrenRead}
+use Rattle.reader.specs.Parts.{Plain, PlainUnder, PlainChildren, ofTree, ofForest}
 use Rattle.reader.specs.declared.nodes.Node.{Node}
 use Rattle.reader.specs.declared.parts.Part.{Part}
 use Rattle.reader.proofs.Positions.{at-join}
@@ -100,7 +101,9 @@ module _ (k : Kind) (bs : List ℕ) (n floor at done : ℕ) (few : n ≤ 128) (n
           none = λ bad t may free s.
               subst (λ (t : Tree). Free n floor done seen (leaves t) → ⊥)
               (sym (only-leaf j t (h .small) (free-small few free) (h .leafAt e) s))
-              (λ free. r .none bad (free .inside j (List·Memᴰ·head refl)) (free .above j (List·Memᴰ·head refl)) (free .unseen j (List·Memᴰ·head refl)) (omega (arith, free .room)))
+              (λ free.
+              let here : List·Memᴰ j (j ∷ []) = List·Memᴰ·head refl in
+              r .none bad (free .inside j here) (free .above j here) (free .unseen j here) (omega (arith, free .room)))
               free;
         }
 

@@ -1,34 +1,15 @@
 -- The children of a group of kind k: a child, and those after it.
-use Prim.Native.Nat.{ℕ, zero, suc, _+_, _-_, _≤_, _<_, min}
+use Prim.Native.Nat.{ℕ, suc, _+_, _-_, _≤_, _<_, min}
 use mathlib.Core.Path.{_≡_, refl, sym, ap, ap₂, subst, _∙_}
-use mathlib.Core.List.{List, [], _∷_, _++_, List·Memᴰ, Memᴰ·append-left, Memᴰ·append-right}
-use mathlib.Core.Bool.{Bool, true, false}
+use mathlib.Core.List.{List, _++_, List·Memᴰ, Memᴰ·append-left, Memᴰ·append-right}
+use mathlib.Core.Bool.{true, false}
 use native.Mathlib.Omega.{arith}
-use lib.ListN.{length, getD, set, length-append, length-set}
+use lib.ListN.{length, set, length-append, length-set}
 use lib.Seq.{sets, getD-set-other}
 use Rattle.poset.specs.Lists.{count}
-use Rattle.poset.specs.Tree.{
-  Kind,
-  series,
-  parallel,
-  Tree,
-  leaf,
-  node,
-  Forest,
-  last,
-  more,
-  leaves,
-  forestLeaves,
-  joined,
-  reversed,
-  forestReversed,
-  least,
-  forestLeast,
-  groups,
-  forestGroups,
-}
+use Rattle.poset.specs.Tree.{Kind, series, parallel, Tree, node, Forest, last, more, leaves, forestLeaves, joined, reversed, forestReversed, least, groups}
 use Rattle.poset.proofs.Laws.{clash, same-count-mem}
-use Rattle.poset.proofs.Shape.{InForest, Once, OnceForest, in-leaves, leaves-in, in-forestLeaves, forestLeaves-in}
+use Rattle.poset.proofs.Shape.{Once, OnceForest, in-leaves, leaves-in, in-forestLeaves, forestLeaves-in}
 use Rattle.poset.proofs.Canonical.{Leads, least-in}
 use Rattle.poset.proofs.Meaning.{once-count}
 use Rattle.poset.proofs.Realizer.{reversed-count, forestReversed-count}
@@ -129,7 +110,9 @@ module _ (k : Kind) (bs : List ℕ) (at done : ℕ) (w v v' : Lists) (t : Tree) 
       let xs : List ℕ = leaves t in
       let ys : List ℕ = forestLeaves f in
       let last-in : List·Memᴰ (front k p q .last) (xs ++ ys) =
-      front-last k (λ u. List·Memᴰ u (xs ++ ys)) p q (Memᴰ·append-left ys (reversed-in t (strand-last (x .strand)))) (Memᴰ·append-right xs (forest-in k f (strand-last (y .strand)))) in
+      front-last k (λ u. List·Memᴰ u (xs ++ ys)) p q
+      (Memᴰ·append-left ys (reversed-in t (strand-last (x .strand))))
+      (Memᴰ·append-right xs (forest-in k f (strand-last (y .strand)))) in
       let end : ℕ = front k p q .last in
       record {
         stands = at-join (treeBits t) (forestBits f) (x .stands) (subst (λ (i : ℕ). At bs i (forestBits f)) (x .end) (y .stands));
@@ -194,7 +177,8 @@ module _ (k : Kind) {bs : List ℕ} {n floor at done : ℕ} {w v : Lists} {p : P
         few = omega (arith, placed .groups, forest-groups f, free .room);
       }
 
-module _ (k : Kind) (bs : List ℕ) (n floor at done : ℕ) (few : n ≤ 128) (w v : Lists) (p : Part) (child : Found ofTree (PlainUnder k) bs n floor at done w v p) where
+module _ (k : Kind) (bs : List ℕ) (n floor at done : ℕ) (few : n ≤ 128) (w v : Lists) (p : Part)
+    (child : Found ofTree (PlainUnder k) bs n floor at done w v p) where
   -- no child stands there
   pub children-none : (c : ℕ) → p .ok ≡ false → Found (ofForest k) (PlainChildren k c) bs n floor at done w v p
   unfolding leaves treeBits
@@ -256,7 +240,8 @@ module _ (k : Kind) (bs : List ℕ) (n floor at done : ℕ) (few : n ≤ 128) (w
         let ys : List ℕ = forestLeaves f in
         let later : ℕ = floorAfter k (p .least) in
         let after : Free n later (done + length xs) (marked (w .seen) xs) ys =
-        subst (λ (d : ℕ). Free n later d (marked (w .seen) xs) ys) (placed .number) (subst (λ (m : List ℕ). Free n later (p .done) m ys) (placed .seen) free-rest) in
+        subst (λ (d : ℕ). Free n later d (marked (w .seen) xs) ys) (placed .number)
+        (subst (λ (m : List ℕ). Free n later (p .done) m ys) (placed .seen) free-rest) in
         let apart = free-apart xs ys later seen-size free after in
         let least-at : floor ≤ p .least = omega (arith, placed .least, free .above (least t) (in-leaves t (least-in t))) in
         let whole : Free n floor done (w .seen) (xs ++ ys) =

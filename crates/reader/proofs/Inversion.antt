@@ -1,11 +1,11 @@
 -- One tree at most stands at a position, and its first bits say which.
-use Prim.Native.Nat.{ℕ, zero, suc, _+_, _^_, _≤_, _<_}
-use mathlib.Core.Path.{_≡_, refl, sym, ap, ap₂, subst, _∙_}
-use mathlib.Core.List.{List, [], _∷_, _++_, List·Memᴰ·head}
-use mathlib.Core.Option.{Option, some, Option·some-injective}
+use Prim.Native.Nat.{ℕ, suc, _+_, _^_, _<_}
+use mathlib.Core.Path.{_≡_, refl, sym, ap, subst, _∙_}
+use mathlib.Core.List.{List, _∷_, _++_}
+use mathlib.Core.Option.{Option·some-injective}
 use native.Mathlib.Omega.{arith}
 use lib.ListN.{length, getD, drop, length-append}
-use Rattle.poset.specs.Tree.{Kind, series, parallel, Tree, leaf, node, Forest, last, more, leaves, forestLeaves, groups}
+use Rattle.poset.specs.Tree.{Kind, series, parallel, Tree, leaf, node, Forest, more, leaves, forestLeaves, groups}
 use Rattle.record.specs.Bits.{bits}
 use Rattle.record.specs.Layout.{kindBit, moreChildren, treeBits, forestBits}
 use Rattle.record.specs.Decode.{readTree}

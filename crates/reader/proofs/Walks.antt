@@ -1,10 +1,10 @@
 -- The reverse sequence, walked from its first job.
 use Prim.Native.Nat.{ℕ, zero, suc, _+_, _-_, _≤_, _<_}
-use mathlib.Core.Path.{_≡_, refl, sym, ap, ap₂, subst, _∙_}
-use mathlib.Core.List.{List, [], _∷_, _++_, append-assoc}
+use mathlib.Core.Path.{_≡_, refl, sym, ap, ap₂, _∙_}
+use mathlib.Core.List.{List, [], _∷_, _++_}
 use native.Mathlib.Nat.{sub-zero}
 use native.Mathlib.Omega.{arith}
-use lib.ListN.{length, getD, set, take, drop, replicate, length-drop, length-replicate}
+use lib.ListN.{length, getD, set, take, drop, replicate}
 use lib.Seq.{drop-cons, take-suc, getD-drop, set-at, append-snoc, length-take-le, take-all}
 use Rattle.record.specs.Bits.{AllBelow}
 use Rattle.record.proofs.Below.{below-head, below-tail}

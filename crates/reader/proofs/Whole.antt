@@ -1,28 +1,27 @@
 -- A record as a whole: the job count, the tree, and the bits left over.
-use Prim.Native.Nat.{ℕ, zero, suc, _+_, _-_, _*_, _^_, _≤_, _<_}
+use Prim.Native.Nat.{ℕ, suc, _+_, _-_, _*_, _≤_, _<_}
 use mathlib.Core.Path.{_≡_, refl, sym, ap, ap₂, subst, _∙_}
-use mathlib.Core.List.{List, [], _∷_, _++_, append-assoc, List·Memᴰ, List·Memᴰ·head, List·Memᴰ·tail}
-use mathlib.Core.Bool.{Bool, true, false}
+use mathlib.Core.List.{List, _++_, List·Memᴰ·head, List·Memᴰ·tail}
+use mathlib.Core.Bool.{true, false}
 use mathlib.Core.Option.{Option, none, some}
 use native.Mathlib.Omega.{arith}
-use lib.ListN.{length, getD, drop, replicate, length-append, length-replicate, getD-replicate}
+use lib.ListN.{length, getD, drop, replicate, length-append, getD-replicate}
 use lib.Seq.{drop-at}
-use Rattle.poset.specs.Tree.{Tree, leaves, reversed, groups, Spans}
+use Rattle.poset.specs.Tree.{Tree, leaves, groups}
 use Rattle.poset.proofs.Laws.{clash}
-use Rattle.poset.proofs.Shape.{leaves-in}
 use Rattle.poset.proofs.Canonical.{canon, canon-canonical}
 use Rattle.poset.proofs.Meaning.{spans-holds}
 use Rattle.record.specs.Bits.{AllBelow, bits, bitsOf}
-use Rattle.record.specs.Layout.{treeBits, layout, IsRecord}
+use Rattle.record.specs.Layout.{treeBits, IsRecord}
 use Rattle.record.specs.Decode.{decode, fills}
 use Rattle.record.proofs.Fields.{length-bits}
-use Rattle.record.proofs.Bytes.{Filled, length-bitsOf, filled-length, filled-unique}
-use Rattle.record.proofs.Sizes.{Small, leaves-below, length-leaves, length-spans, spans-small}
+use Rattle.record.proofs.Bytes.{Filled, length-bitsOf, filled-unique}
+use Rattle.record.proofs.Sizes.{leaves-below, length-leaves, length-spans}
 use Rattle.record.proofs.Tests.{fills-zeros, zeros-fill}
 use Rattle.record.proofs.Records.{layout-filled}
 use Rattle.record.proofs.Theorems.{decode-record, decode-none, layout-length}
 use Rattle.reader.specs.Fields.{At, FieldAt}
-use Rattle.reader.specs.Parts.{Lists, Free, Placed, Found, Plain, ofTree}
+use Rattle.reader.specs.Parts.{Lists, Free, Found, Plain, ofTree}
 use Rattle.reader.specs.Answer.{padded, reading, Reads, walk}
 use Rattle.reader.specs.declared.parts.Part.{Part}
 use Rattle.reader.specs.declared.Reading.{Reading}

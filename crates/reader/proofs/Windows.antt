@@ -4,10 +4,10 @@ use mathlib.Core.Path.{_≡_, refl, sym, ap, ap₂, subst, _∙_}
 use mathlib.Core.List.{List, [], _∷_, _++_, append-assoc}
 use native.Mathlib.Nat.{mod-lt}
 use native.Mathlib.Omega.{arith}
-use lib.ListN.{length, getD, drop, length-append, length-drop}
+use lib.ListN.{length, getD, drop}
 use lib.Pow.{pow-pos, split, shl-exact}
 use lib.Seq.{drop-cons, drop-drop, drop-append-seam}
-use Rattle.record.specs.Bits.{AllBelow, bits, bitsOf}
+use Rattle.record.specs.Bits.{bits, bitsOf}
 use Rattle.record.proofs.Fields.{length-bits, bits-append}
 use Rattle.record.proofs.Bytes.{length-bitsOf}
 use Rattle.reader.specs.Fields.{At, FieldAt}

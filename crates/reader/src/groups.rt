@@ -13,10 +13,10 @@ ghost use Rattle.reader.specs.Parts.{Ready, TreeRead, ChildRead, Childre
 // `left` + 1 children of a chain, from `at` on.
 pub fn chain(
     bytes: &[u8],
-    count: usize,
-    left: usize,
-    at: usize,
-    done: usize,
+    count: u8,
+    left: u8,
+    at: u16,
+    done: u8,
     seen: &mut [u8; 128],
     forward: &mut [u8; 128],
     next: &mut [u8; 128],
@@ -51,9 +51,9 @@ pub fn chain(
 // A child of a chain: a leaf or a side group.
 pub fn chain_child(
     bytes: &[u8],
-    count: usize,
-    at: usize,
-    done: usize,
+    count: u8,
+    at: u16,
+    done: u8,
     seen: &mut [u8; 128],
     forward: &mut [u8; 128],
     next: &mut [u8; 128],
@@ -62,7 +62,7 @@ pub fn chain_child(
     ensures { λ r. ⌜ ChildRead series (bitsOf (now (bytes .entry))) count 0 at done
         (now (seen .entry)) (now (forward .entry)) (now (next .entry)) (now (seen .exit)) (now (forward .exit)) (now (next .exit)) r ⌝ }
 {
-    let node = node_at(bytes, at);
+    let node = node_at(bytes, at as usize);
     if node.tag == 0 {
         return leaf(count, 0, node.value, at + 8, done, seen, forward);
     }
@@ -86,11 +86,11 @@ pub fn chain_child(
 // `left` + 1 children of a side group, from `at` on: ascending by the smallest job in each, the first's not below the floor.
 pub fn side(
     bytes: &[u8],
-    count: usize,
-    left: usize,
-    floor: usize,
-    at: usize,
-    done: usize,
+    count: u8,
+    left: u8,
+    floor: u8,
+    at: u16,
+    done: u8,
     seen: &mut [u8; 128],
     forward: &mut [u8; 128],
     next: &mut [u8; 128],
@@ -126,10 +126,10 @@ pub fn side(
 // A child of a side group: a leaf or a chain.
 pub fn side_child(
     bytes: &[u8],
-    count: usize,
-    floor: usize,
-    at: usize,
-    done: usize,
+    count: u8,
+    floor: u8,
+    at: u16,
+    done: u8,
     seen: &mut [u8; 128],
     forward: &mut [u8; 128],
     next: &mut [u8; 128],
@@ -138,7 +138,7 @@ pub fn side_child(
     ensures { λ r. ⌜ ChildRead parallel (bitsOf (now (bytes .entry))) count floor at done
         (now (seen .entry)) (now (forward .entry)) (now (next .entry)) (now (seen .exit)) (now (forward .exit)) (now (next .exit)) r ⌝ }
 {
-    let node = node_at(bytes, at);
+    let node = node_at(bytes, at as usize);
     if node.tag == 0 {
         return leaf(count, floor, node.value, at + 8, done, seen, forward);
     }
@@ -152,7 +152,7 @@ pub fn side_child(
 // The tree after the job count: what it begins with says which reader takes it.
 pub fn tree(
     bytes: &[u8],
-    count: usize,
+    count: u8,
     seen: &mut [u8; 128],
     forward: &mut [u8; 128],
     next: &mut [u8; 128],

@@ -8,9 +8,7 @@ use nodes::field;
 use nodes::filled;
 use nodes::wide;
 ghost use mathlib.Core.Path.{_≡_};
-ghost use Prim.Native.Nat.{_≤_, _<_};
-ghost use mathlib.Core.List.{[]};
-ghost use mathlib.Core.Bool.{true, false};
+ghost use Prim.Native.Nat.{_≤_};
 ghost use mathlib.Core.Option.{none};
 ghost use Rattle.record.specs.Bits.{AllBelow};
 ghost use Rattle.record.specs.Decode.{decode};
@@ -66,21 +64,21 @@ pub fn read_record(bytes: &[u8]) -> Reading
     let mut seen = [0u8; 128];
     let mut forward = [0u8; 128];
     let mut next = [0u8; 128];
-    let part = tree(bytes, count, &mut seen, &mut forward, &mut next);
+    let part = tree(bytes, count as u8, &mut seen, &mut forward, &mut next);
     if !part.ok {
         return no_record();
     }
-    if part.done != count {
+    if part.done as usize != count {
         return no_record();
     }
-    if !filled(bytes, part.at) {
+    if !filled(bytes, part.at as usize) {
         return no_record();
     }
-    let reverse = in_turn(&next, part.first, count);
+    let reverse = in_turn(&next, part.first as usize, count);
     Reading {
         ok: true,
         count: count,
-        groups: part.groups,
+        groups: part.groups as usize,
         forward: forward,
         reverse: reverse,
     }

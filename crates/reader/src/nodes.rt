@@ -9,8 +9,8 @@ ghost use Rattle.reader.specs.Fields.{FieldAt, NodeAt};
 // What a node begins with. tag: 0 a leaf, 1 a series group, 2 a parallel group, 3 none: the bits end, or a group has one
 // child. value: the job, or the children minus 1.
 pub struct Node {
-    pub tag: usize,
-    pub value: usize,
+    pub tag: u8,
+    pub value: u8,
 }
 
 pub fn wide(x: u8) -> usize
@@ -44,7 +44,10 @@ pub fn node_at(bytes: &[u8], at: usize) -> Node
     }
     let x = field(bytes, at, 8);
     if x < 128 {
-        return Node { tag: 0, value: x };
+        return Node {
+            tag: 0,
+            value: x as u8,
+        };
     }
     if end < at + 9 {
         return Node { tag: 3, value: 0 };
@@ -54,8 +57,8 @@ pub fn node_at(bytes: &[u8], at: usize) -> Node
         return Node { tag: 3, value: 0 };
     }
     Node {
-        tag: x / 64 - 1,
-        value: more,
+        tag: (x / 64 - 1) as u8,
+        value: more as u8,
     }
 }
 

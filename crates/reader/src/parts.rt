@@ -1,20 +1,20 @@
 // Parts of a record: what is read of a tree or of the children of a group, and the work lists beside it.
 ghost use mathlib.Core.Path.{_≡_};
 ghost use mathlib.Core.Bool.{true, false};
-ghost use Prim.Native.Nat.{_+_, _*_, _≤_, _<_, min};
-ghost use lib.ListN.{length, set};
+ghost use Prim.Native.Nat.{_≤_, _<_, min};
+ghost use lib.ListN.{set};
 ghost use Rattle.reader.specs.Parts.{LeafRead, Grouped, linkedPart};
 
 // ok: whether the part is one of a record. at, done: the bits and the leaves up to its end. groups, least: of the
 // part. first, last: the ends of its part of the reverse sequence.
 pub struct Part {
     pub ok: bool,
-    pub at: usize,
-    pub done: usize,
-    pub groups: usize,
-    pub least: usize,
-    pub first: usize,
-    pub last: usize,
+    pub at: u16,
+    pub done: u8,
+    pub groups: u8,
+    pub least: u8,
+    pub first: u8,
+    pub last: u8,
 }
 
 pub fn refused() -> Part
@@ -33,11 +33,11 @@ pub fn refused() -> Part
 
 // A leaf that ends at `at`: its job is below the count, not below the floor, and named for the first time.
 pub fn leaf(
-    count: usize,
-    floor: usize,
-    job: usize,
-    at: usize,
-    done: usize,
+    count: u8,
+    floor: u8,
+    job: u8,
+    at: u16,
+    done: u8,
     seen: &mut [u8; 128],
     forward: &mut [u8; 128],
 ) -> Part
@@ -53,11 +53,13 @@ pub fn leaf(
     if done >= count {
         return refused();
     }
-    if seen[job] != 0 {
+    let mark = job as usize;
+    if seen[mark] != 0 {
         return refused();
     }
-    seen[job] = 1;
-    forward[done] = job as u8;
+    seen[mark] = 1;
+    let place = done as usize;
+    forward[place] = job;
     Part {
         ok: true,
         at: at,
@@ -70,7 +72,7 @@ pub fn leaf(
 }
 
 // The children of a group, none of their jobs below the floor, as the group.
-pub fn grouped(part: Part, floor: usize) -> Part
+pub fn grouped(part: Part, floor: u8) -> Part
     requires { ⌜ (part .ok ≡ true → part .groups < 128) ⌝ }
     ensures { λ r. ⌜ Grouped floor part r ⌝ }
 {
@@ -91,19 +93,19 @@ pub fn grouped(part: Part, floor: usize) -> Part
     }
 }
 
-fn smaller(a: usize, b: usize) -> usize
+fn smaller(a: u8, b: u8) -> u8
     ensures { λ r. ⌜ r ≡ min a b ⌝ }
 {
     if a < b { a } else { b }
 }
 
 // Two parts as one that ends at `at`, `ahead` before `behind` in the reverse sequence.
-pub fn linked(ahead: Part, behind: Part, at: usize, done: usize, next: &mut [u8; 128]) -> Part
-    requires { ⌜ (ahead .last < 128) × (behind .first < 128) × (ahead .groups ≤ 128) × (behind .groups ≤ 128) ⌝ }
+pub fn linked(ahead: Part, behind: Part, at: u16, done: u8, next: &mut [u8; 128]) -> Part
+    requires { ⌜ (ahead .last < 128) × (behind .first < 128) × (ahead .groups < 128) × (behind .groups < 128) ⌝ }
     ensures { λ r. ⌜ (r ≡ linkedPart ahead behind at done) × (now (next .exit) ≡ set (now (next .entry)) (ahead .last) (behind .first)) ⌝ }
 {
-    let last = ahead.last;
-    next[last] = behind.first as u8;
+    let last = ahead.last as usize;
+    next[last] = behind.first;
     Part {
         ok: true,
         at: at,

@@ -1,14 +1,11 @@
+-- `in_turn` meets its contract. The invariant: the jobs passed are written, and the walk from the present one is what is left of it.
 use Prim.Native.Nat.{ℕ, _+_, _-_, _<_}
 use mathlib.Core.Path.{sym, subst}
 use lib.ListN.{set}
 use native.Mathlib.Omega.{arith}
-use borrow.Author.Needs.{needs}
 use Rattle.reader.proofs.Walks.{Walked, walked-none, walked-all, job-below, walked-more}
 use Rattle.reader.proofs.in_turn.Statement.{statement}
 use Rattle.reader.proofs.in_turn.Tie as tie
-use Rattle.reader.proofs.in_turn.Reads as reads
-use Rattle.reader.proofs.in_turn.Lts as lts
-use Rattle.reader.proofs.nodes.wide.Reads as wide-reads
 
 abbrev Inv-loop : tie.InvT-loop
 Inv-loop next first count jobs₀ job₀ i₀ jobs job i = Walked next first count i job jobs
@@ -21,50 +18,45 @@ job-in : (c : tie.In-loop Inv-loop μ-loop) → c .before .loop .job < 128
 job-in c =
     let l = c .before in
     let s = l .before in
-    job-below (s .args .next .now) (s .args .first) (s .args .count) (l .loop .i) (l .loop .job) (l .loop .jobs) (l .loop .inv) (s .pre .0) (c .loop-test .taken) (s .pre .1)
+    job-below (s .args .next .now) (s .args .first) (s .args .count)
+    (l .loop .i) (l .loop .job) (l .loop .jobs) (l .loop .inv) (s .pre .0) (c .loop-test .taken) (s .pre .1)
 
 loop-holds : tie.Need-loop-holds Inv-loop μ-loop
 loop-holds c = walked-none (c .args .next .now) (c .args .first) (c .args .count)
 
--- src/lib.rt:46:19
 cast-jobs : tie.Need-cast-jobs Inv-loop μ-loop
 cast-jobs c = omega (arith, job-in c)
 
--- src/lib.rt:46:9
 array-write-jobs : tie.Need-array-write-jobs Inv-loop μ-loop
 array-write-jobs c = omega arith
 
--- src/lib.rt:47:20
 element-copy-out-wide : tie.Need-element-copy-out-wide Inv-loop μ-loop
 element-copy-out-wide c = job-in c
 
--- src/lib.rt:47:9
 wide-requires : tie.Need-wide-requires Inv-loop μ-loop
 wide-requires c κs = tt
 
--- src/lib.rt:45:9
 add-i : tie.Need-add-i Inv-loop μ-loop
 add-i c = omega arith
 
--- src/lib.rt:45:5
 loop-less : tie.Need-loop-less Inv-loop μ-loop
 loop-less c = omega arith
 
--- src/lib.rt:45:5
 loop-again : tie.Need-loop-again Inv-loop μ-loop
 loop-again c =
     let l = c .before .before .before in
     let s = l .before in
     subst (λ (j : ℕ). Walked (s .args .next .now) (s .args .first) (s .args .count) (l .loop .i + 1) j (set (l .loop .jobs) (l .loop .i) (l .loop .job)))
     (sym (c .wide .ensures .0))
-    (walked-more (s .args .next .now) (s .args .first) (s .args .count) (l .loop .i) (l .loop .job) (l .loop .jobs) (l .loop .inv) (s .pre .0) (c .before .before .loop-test .taken))
+    (walked-more (s .args .next .now) (s .args .first) (s .args .count)
+    (l .loop .i) (l .loop .job) (l .loop .jobs) (l .loop .inv) (s .pre .0) (c .before .before .loop-test .taken))
 
--- src/lib.rt:39:1
 returns : tie.Need-returns Inv-loop μ-loop
 returns c =
     let l = c .before in
     let s = l .before in
-    walked-all (s .args .next .now) (s .args .first) (s .args .count) (l .loop .i) (l .loop .job) (l .loop .jobs) (l .loop .inv) (s .pre .0) (c .loop-test .left)
+    walked-all (s .args .next .now) (s .args .first) (s .args .count)
+    (l .loop .i) (l .loop .job) (l .loop .jobs) (l .loop .inv) (s .pre .0) (c .loop-test .left)
 
 pub in-turn-spec : {M : Type 1} → statement M
 in-turn-spec =

@@ -1,6 +1,6 @@
 -- The readers of groups meet their contracts, each answer by a law over the kind. The measure is twice the bits left, and one more for a
--- reader of several children. In an answer s is the start, n the node that was read, k the place after the first child, e that after the
--- test for more.
+-- reader of several children. In an answer p is what the reader is given, n the node that was read, k the place after the first child, e
+-- that after the test for more.
 use Prim.Native.Nat.{ℕ, _<_}
 use mathlib.Core.Path.{refl}
 use native.Mathlib.Nat.{pos-of-ne-zero}
@@ -126,20 +126,21 @@ side-child-calls t = (
 
 chain-chain-child-requires : (t : ℕ) → chain-lts.Need-chain-child-requires (chain-calls t) (chain-at t) chain.Post
 chain-chain-child-requires t c κs =
-    let s = c .before .before .before .before in
-    call-child _ _ _ _ _ _ (s .pre .1) (s .pre .0)
+    let p = c .before .before .before .before .pre in
+    call-child _ _ _ _ _ _ (p .1) (p .0)
 
 chain-returns : (t : ℕ) → chain-lts.Need-returns (chain-calls t) (chain-at t) chain.Post
 chain-returns t c =
     let k = c .before .before in
-    let s = k .before .before .before .before .before in
-    children-none series _ _ _ _ _ (s .pre .1 .few) _ _ _ (k .chain-child .ensures) _ (not-true _ (c .if1 .taken))
+    let p = k .before .before .before .before .before .pre in
+    children-none series _ _ _ _ _ (p .1 .few) _ _ _ (k .chain-child .ensures) _ (not-true _ (c .if1 .taken))
 
 chain-returns-2 : (t : ℕ) → chain-lts.Need-returns-2 (chain-calls t) (chain-at t) chain.Post
 chain-returns-2 t c =
     let k = c .before .before .before in
-    let s = k .before .before .before .before .before in
-    children-last series _ _ _ _ _ (s .pre .1 .few) _ _ _ (k .chain-child .ensures) _ (c .if2 .taken) (not-false _ (c .before .if1 .left))
+    let p = k .before .before .before .before .before .pre in
+    children-last series _ _ _ _ _ (p .1 .few) _ _ _ (k .chain-child .ensures) _
+    (c .if2 .taken) (not-false _ (c .before .if1 .left))
 
 chain-sub-chain : (t : ℕ) → chain-lts.Need-sub-chain (chain-calls t) (chain-at t) chain.Post
 chain-sub-chain t c = omega (arith, pos-of-ne-zero (c .if2 .left))
@@ -148,51 +149,55 @@ chain-chain-requires : (t : ℕ) → chain-lts.Need-chain-requires (chain-calls 
 chain-chain-requires t c κs =
     let e = c .before .before .before in
     let k = e .before .before .before in
-    let s = k .before .before .before .before .before in
-    call-rest _ _ _ _ _ _ (s .pre .1) _ _ _ (child-bounded series (s .pre .1 .few) (k .chain-child .ensures) (not-false _ (e .before .if1 .left)) .1) (s .pre .0)
+    let p = k .before .before .before .before .before .pre in
+    call-rest _ _ _ _ _ _ (p .1) _ _ _
+    (child-bounded series (p .1 .few) (k .chain-child .ensures) (not-false _ (e .before .if1 .left)) .1) (p .0)
 
 chain-returns-3 : (t : ℕ) → chain-lts.Need-returns-3 (chain-calls t) (chain-at t) chain.Post
 chain-returns-3 t c =
     let e = c .before .before .before .before .before .before in
     let k = e .before .before .before in
-    let s = k .before .before .before .before .before in
-    children-short series _ _ _ _ _ (s .pre .1 .few) _ _ _ (k .chain-child .ensures) _ (e .if2 .left) (not-false _ (e .before .if1 .left)) _ _ (c .before .before .chain .ensures)
+    let p = k .before .before .before .before .before .pre in
+    children-short series _ _ _ _ _ (p .1 .few) _ _ _ (k .chain-child .ensures) _
+    (e .if2 .left) (not-false _ (e .before .if1 .left)) _ _ (c .before .before .chain .ensures)
     (not-true _ (c .if3 .taken))
 
 chain-linked-requires : (t : ℕ) → chain-lts.Need-linked-requires (chain-calls t) (chain-at t) chain.Post
 chain-linked-requires t c κs =
     let e = c .before .before .before .before .before .before .before in
     let k = e .before .before .before in
-    let s = k .before .before .before .before .before in
+    let p = k .before .before .before .before .before .pre in
     call-linked
-    (child-bounded series (s .pre .1 .few) (k .chain-child .ensures) (not-false _ (e .before .if1 .left)) .0)
-    (children-bounded series (s .pre .1 .few) _ (c .before .before .before .chain .ensures) (not-false _ (c .before .if3 .left)))
+    (child-bounded series (p .1 .few) (k .chain-child .ensures) (not-false _ (e .before .if1 .left)) .0)
+    (children-bounded series (p .1 .few) _ (c .before .before .before .chain .ensures) (not-false _ (c .before .if3 .left)))
 
 chain-returns-4 : (t : ℕ) → chain-lts.Need-returns-4 (chain-calls t) (chain-at t) chain.Post
 chain-returns-4 t c =
     let e = c .before .before .before .before .before .before .before .before in
     let k = e .before .before .before in
-    let s = k .before .before .before .before .before in
-    children-more series _ _ _ _ _ (s .pre .1 .few) _ _ _ (k .chain-child .ensures) _ (e .if2 .left) (not-false _ (e .before .if1 .left)) _ _ (c .before .before .before .before .chain .ensures) _ _
-    (omega (arith, s .pre .1 .links, s .pre .1 .few)) (omega (arith, s .pre .1 .marks, s .pre .1 .few)) refl
+    let p = k .before .before .before .before .before .pre in
+    children-more series _ _ _ _ _ (p .1 .few) _ _ _ (k .chain-child .ensures) _
+    (e .if2 .left) (not-false _ (e .before .if1 .left)) _ _ (c .before .before .before .before .chain .ensures) _ _
+    (omega (arith, p .1 .links, p .1 .few)) (omega (arith, p .1 .marks, p .1 .few)) refl
     (not-false _ (c .before .before .if3 .left)) (c .linked .ensures .0) (c .linked .ensures .1)
 
 -- chain_child
 
 chain-child-node-at-requires : (t : ℕ) → chain-child-lts.Need-node-at-requires (chain-child-calls t) (chain-child-at t) chain-child.Post
-chain-child-node-at-requires t c κs = let s = c .before in (s .pre .1 .start, s .pre .1 .short)
+chain-child-node-at-requires t c κs = let p = c .before .pre in (p .1 .start, p .1 .short)
 
 chain-child-add-leaf : (t : ℕ) → chain-child-lts.Need-add-leaf (chain-child-calls t) (chain-child-at t) chain-child.Post
-chain-child-add-leaf t c = let s = c .before .before .before .before in omega (arith, s .pre .1 .start)
+chain-child-add-leaf t c = omega (arith, c .before .before .before .before .pre .1 .start)
 
 chain-child-leaf-requires : (t : ℕ) → chain-child-lts.Need-leaf-requires (chain-child-calls t) (chain-child-at t) chain-child.Post
-chain-child-leaf-requires t c κs = let s = c .before .before .before .before .before .before in s .pre .1 .few
+chain-child-leaf-requires t c κs = c .before .before .before .before .before .before .pre .1 .few
 
 chain-child-returns : (t : ℕ) → chain-child-lts.Need-returns (chain-child-calls t) (chain-child-at t) chain-child.Post
 chain-child-returns t c =
     let n = c .before .before .before .before .before in
-    let s = n .before .before in
-    child-leaf series _ _ _ _ _ (s .pre .1 .few) _ (n .node-at .ensures) _ _ _ _ _ _ (c .before .before .before .if1 .taken) (c .leaf .ensures)
+    let p = n .before .before .pre in
+    child-leaf series _ _ _ _ _ (p .1 .few) _ (n .node-at .ensures)
+    _ _ _ _ _ _ (c .before .before .before .if1 .taken) (c .leaf .ensures)
 
 chain-child-refused-requires : (t : ℕ) → chain-child-lts.Need-refused-requires (chain-child-calls t) (chain-child-at t) chain-child.Post
 chain-child-refused-requires t c κs = search needs
@@ -201,48 +206,54 @@ chain-child-returns-2 : (t : ℕ) → chain-child-lts.Need-returns-2 (chain-chil
 unfolding kindBit
 chain-child-returns-2 t c =
     let n = c .before .before .before .before .before in
-    let s = n .before .before in
-    child-none series _ _ _ _ _ (s .pre .1 .few) _ (n .node-at .ensures) _ _ _ _ _ _ _ (c .before .before .before .if1 .left) (c .before .if2 .taken) (c .refused .ensures)
+    let p = n .before .before .pre in
+    child-none series _ _ _ _ _ (p .1 .few) _ (n .node-at .ensures)
+    _ _ _ _ _ _ _ (c .before .before .before .if1 .left) (c .before .if2 .taken) (c .refused .ensures)
 
 chain-child-add-side : (t : ℕ) → chain-child-lts.Need-add-side (chain-child-calls t) (chain-child-at t) chain-child.Post
-chain-child-add-side t c = let s = c .before .before .before .before .before .before in omega (arith, s .pre .1 .start)
+chain-child-add-side t c = omega (arith, c .before .before .before .before .before .before .pre .1 .start)
 
 chain-child-side-requires : (t : ℕ) → chain-child-lts.Need-side-requires (chain-child-calls t) (chain-child-at t) chain-child.Post
 unfolding kindBit
 chain-child-side-requires t c κs =
     let n = c .before .before .before .before .before .before .before in
-    let s = n .before .before in
-    call-children _ _ _ _ _ _ (s .pre .1) parallel _ (n .node-at .ensures .groupAt parallel (c .before .before .before .if2 .left)) (s .pre .0)
+    let p = n .before .before .pre in
+    call-children _ _ _ _ _ _ (p .1) parallel _
+    (n .node-at .ensures .groupAt parallel (c .before .before .before .if2 .left)) (p .0)
 
 chain-child-grouped-requires : (t : ℕ) → chain-child-lts.Need-grouped-requires (chain-child-calls t) (chain-child-at t) chain-child.Post
-chain-child-grouped-requires t c κs = let s = c .before .before .before .before .before .before .before .before .before .before in λ ok. children-bounded parallel (s .pre .1 .few) _ (c .side .ensures) ok .few
+chain-child-grouped-requires t c κs =
+    let p = c .before .before .before .before .before .before .before .before .before .before .pre in
+    λ ok. children-bounded parallel (p .1 .few) _ (c .side .ensures) ok .few
 
 chain-child-returns-3 : (t : ℕ) → chain-child-lts.Need-returns-3 (chain-child-calls t) (chain-child-at t) chain-child.Post
 unfolding kindBit
 chain-child-returns-3 t c =
     let n = c .before .before .before .before .before .before .before .before .before in
-    let s = n .before .before in
-    child-group series _ _ _ _ _ (s .pre .1 .few) _ (n .node-at .ensures) _ _ _ _ _ _ _ (c .before .before .before .before .before .if2 .left) _ (c .before .side .ensures)
+    let p = n .before .before .pre in
+    child-group series _ _ _ _ _ (p .1 .few) _ (n .node-at .ensures)
+    _ _ _ _ _ _ _ (c .before .before .before .before .before .if2 .left) _ (c .before .side .ensures)
     (c .grouped .ensures)
 
 -- side
 
 side-side-child-requires : (t : ℕ) → side-lts.Need-side-child-requires (side-calls t) (side-at t) side.Post
 side-side-child-requires t c κs =
-    let s = c .before .before .before .before in
-    call-child _ _ _ _ _ _ (s .pre .1) (s .pre .0)
+    let p = c .before .before .before .before .pre in
+    call-child _ _ _ _ _ _ (p .1) (p .0)
 
 side-returns : (t : ℕ) → side-lts.Need-returns (side-calls t) (side-at t) side.Post
 side-returns t c =
     let k = c .before .before in
-    let s = k .before .before .before .before .before in
-    children-none parallel _ _ _ _ _ (s .pre .1 .few) _ _ _ (k .side-child .ensures) _ (not-true _ (c .if1 .taken))
+    let p = k .before .before .before .before .before .pre in
+    children-none parallel _ _ _ _ _ (p .1 .few) _ _ _ (k .side-child .ensures) _ (not-true _ (c .if1 .taken))
 
 side-returns-2 : (t : ℕ) → side-lts.Need-returns-2 (side-calls t) (side-at t) side.Post
 side-returns-2 t c =
     let k = c .before .before .before in
-    let s = k .before .before .before .before .before in
-    children-last parallel _ _ _ _ _ (s .pre .1 .few) _ _ _ (k .side-child .ensures) _ (c .if2 .taken) (not-false _ (c .before .if1 .left))
+    let p = k .before .before .before .before .before .pre in
+    children-last parallel _ _ _ _ _ (p .1 .few) _ _ _ (k .side-child .ensures) _
+    (c .if2 .taken) (not-false _ (c .before .if1 .left))
 
 side-sub-side : (t : ℕ) → side-lts.Need-sub-side (side-calls t) (side-at t) side.Post
 side-sub-side t c = omega (arith, pos-of-ne-zero (c .if2 .left))
@@ -251,58 +262,62 @@ side-add-side : (t : ℕ) → side-lts.Need-add-side (side-calls t) (side-at t) 
 side-add-side t c =
     let e = c .before in
     let k = e .before .before .before in
-    let s = k .before .before .before .before .before in
-    omega (arith, child-bounded parallel (s .pre .1 .few) (k .side-child .ensures) (not-false _ (e .before .if1 .left)) .1 .smallest)
+    let p = k .before .before .before .before .before .pre in
+    omega (arith, child-bounded parallel (p .1 .few) (k .side-child .ensures) (not-false _ (e .before .if1 .left)) .1 .smallest)
 
 side-side-requires : (t : ℕ) → side-lts.Need-side-requires (side-calls t) (side-at t) side.Post
 side-side-requires t c κs =
     let e = c .before .before .before .before in
     let k = e .before .before .before in
-    let s = k .before .before .before .before .before in
-    call-rest _ _ _ _ _ _ (s .pre .1) _ _ _ (child-bounded parallel (s .pre .1 .few) (k .side-child .ensures) (not-false _ (e .before .if1 .left)) .1) (s .pre .0)
+    let p = k .before .before .before .before .before .pre in
+    call-rest _ _ _ _ _ _ (p .1) _ _ _
+    (child-bounded parallel (p .1 .few) (k .side-child .ensures) (not-false _ (e .before .if1 .left)) .1) (p .0)
 
 side-returns-3 : (t : ℕ) → side-lts.Need-returns-3 (side-calls t) (side-at t) side.Post
 side-returns-3 t c =
     let e = c .before .before .before .before .before .before .before in
     let k = e .before .before .before in
-    let s = k .before .before .before .before .before in
-    children-short parallel _ _ _ _ _ (s .pre .1 .few) _ _ _ (k .side-child .ensures) _ (e .if2 .left) (not-false _ (e .before .if1 .left)) _ _ (c .before .before .side .ensures)
+    let p = k .before .before .before .before .before .pre in
+    children-short parallel _ _ _ _ _ (p .1 .few) _ _ _ (k .side-child .ensures) _
+    (e .if2 .left) (not-false _ (e .before .if1 .left)) _ _ (c .before .before .side .ensures)
     (not-true _ (c .if3 .taken))
 
 side-linked-requires : (t : ℕ) → side-lts.Need-linked-requires (side-calls t) (side-at t) side.Post
 side-linked-requires t c κs =
     let e = c .before .before .before .before .before .before .before .before in
     let k = e .before .before .before in
-    let s = k .before .before .before .before .before in
+    let p = k .before .before .before .before .before .pre in
     call-linked
-    (children-bounded parallel (s .pre .1 .few) _ (c .before .before .before .side .ensures) (not-false _ (c .before .if3 .left)))
-    (child-bounded parallel (s .pre .1 .few) (k .side-child .ensures) (not-false _ (e .before .if1 .left)) .0)
+    (children-bounded parallel (p .1 .few) _ (c .before .before .before .side .ensures) (not-false _ (c .before .if3 .left)))
+    (child-bounded parallel (p .1 .few) (k .side-child .ensures) (not-false _ (e .before .if1 .left)) .0)
 
 side-returns-4 : (t : ℕ) → side-lts.Need-returns-4 (side-calls t) (side-at t) side.Post
 side-returns-4 t c =
     let e = c .before .before .before .before .before .before .before .before .before in
     let k = e .before .before .before in
-    let s = k .before .before .before .before .before in
-    children-more parallel _ _ _ _ _ (s .pre .1 .few) _ _ _ (k .side-child .ensures) _ (e .if2 .left) (not-false _ (e .before .if1 .left)) _ _ (c .before .before .before .before .side .ensures) _ _
-    (omega (arith, s .pre .1 .links, s .pre .1 .few)) (omega (arith, s .pre .1 .marks, s .pre .1 .few)) tt
+    let p = k .before .before .before .before .before .pre in
+    children-more parallel _ _ _ _ _ (p .1 .few) _ _ _ (k .side-child .ensures) _
+    (e .if2 .left) (not-false _ (e .before .if1 .left)) _ _ (c .before .before .before .before .side .ensures) _ _
+    (omega (arith, p .1 .links, p .1 .few)) (omega (arith, p .1 .marks, p .1 .few)) tt
     (not-false _ (c .before .before .if3 .left)) (c .linked .ensures .0) (c .linked .ensures .1)
 
 -- side_child
 
 side-child-node-at-requires : (t : ℕ) → side-child-lts.Need-node-at-requires (side-child-calls t) (side-child-at t) side-child.Post
-side-child-node-at-requires t c κs = let s = c .before in (s .pre .1 .start, s .pre .1 .short)
+side-child-node-at-requires t c κs = let p = c .before .pre in (p .1 .start, p .1 .short)
 
 side-child-add-leaf : (t : ℕ) → side-child-lts.Need-add-leaf (side-child-calls t) (side-child-at t) side-child.Post
-side-child-add-leaf t c = let s = c .before .before .before .before in omega (arith, s .pre .1 .start)
+side-child-add-leaf t c = omega (arith, c .before .before .before .before .pre .1 .start)
 
 side-child-leaf-requires : (t : ℕ) → side-child-lts.Need-leaf-requires (side-child-calls t) (side-child-at t) side-child.Post
-side-child-leaf-requires t c κs = let s = c .before .before .before .before .before .before in s .pre .1 .few
+side-child-leaf-requires t c κs = c .before .before .before .before .before .before .pre .1 .few
 
 side-child-returns : (t : ℕ) → side-child-lts.Need-returns (side-child-calls t) (side-child-at t) side-child.Post
 side-child-returns t c =
     let n = c .before .before .before .before .before in
-    let s = n .before .before in
-    child-leaf parallel _ _ _ _ _ (s .pre .1 .few) _ (n .node-at .ensures) _ _ _ _ _ _ (c .before .before .before .if1 .taken) (c .leaf .ensures)
+    let p = n .before .before .pre in
+    child-leaf parallel _ _ _ _ _ (p .1 .few) _ (n .node-at .ensures)
+    _ _ _ _ _ _ (c .before .before .before .if1 .taken) (c .leaf .ensures)
 
 side-child-refused-requires : (t : ℕ) → side-child-lts.Need-refused-requires (side-child-calls t) (side-child-at t) side-child.Post
 side-child-refused-requires t c κs = search needs
@@ -311,28 +326,33 @@ side-child-returns-2 : (t : ℕ) → side-child-lts.Need-returns-2 (side-child-c
 unfolding kindBit
 side-child-returns-2 t c =
     let n = c .before .before .before .before .before in
-    let s = n .before .before in
-    child-none parallel _ _ _ _ _ (s .pre .1 .few) _ (n .node-at .ensures) _ _ _ _ _ _ _ (c .before .before .before .if1 .left) (c .before .if2 .taken) (c .refused .ensures)
+    let p = n .before .before .pre in
+    child-none parallel _ _ _ _ _ (p .1 .few) _ (n .node-at .ensures)
+    _ _ _ _ _ _ _ (c .before .before .before .if1 .left) (c .before .if2 .taken) (c .refused .ensures)
 
 side-child-add-chain : (t : ℕ) → side-child-lts.Need-add-chain (side-child-calls t) (side-child-at t) side-child.Post
-side-child-add-chain t c = let s = c .before .before .before .before .before .before in omega (arith, s .pre .1 .start)
+side-child-add-chain t c = omega (arith, c .before .before .before .before .before .before .pre .1 .start)
 
 side-child-chain-requires : (t : ℕ) → side-child-lts.Need-chain-requires (side-child-calls t) (side-child-at t) side-child.Post
 unfolding kindBit
 side-child-chain-requires t c κs =
     let n = c .before .before .before .before .before .before .before in
-    let s = n .before .before in
-    call-children _ _ _ _ _ _ (s .pre .1) series _ (n .node-at .ensures .groupAt series (c .before .before .before .if2 .left)) (s .pre .0)
+    let p = n .before .before .pre in
+    call-children _ _ _ _ _ _ (p .1) series _
+    (n .node-at .ensures .groupAt series (c .before .before .before .if2 .left)) (p .0)
 
 side-child-grouped-requires : (t : ℕ) → side-child-lts.Need-grouped-requires (side-child-calls t) (side-child-at t) side-child.Post
-side-child-grouped-requires t c κs = let s = c .before .before .before .before .before .before .before .before .before .before in λ ok. children-bounded series (s .pre .1 .few) _ (c .chain .ensures) ok .few
+side-child-grouped-requires t c κs =
+    let p = c .before .before .before .before .before .before .before .before .before .before .pre in
+    λ ok. children-bounded series (p .1 .few) _ (c .chain .ensures) ok .few
 
 side-child-returns-3 : (t : ℕ) → side-child-lts.Need-returns-3 (side-child-calls t) (side-child-at t) side-child.Post
 unfolding kindBit
 side-child-returns-3 t c =
     let n = c .before .before .before .before .before .before .before .before .before in
-    let s = n .before .before in
-    child-group parallel _ _ _ _ _ (s .pre .1 .few) _ (n .node-at .ensures) _ _ _ _ _ _ _ (c .before .before .before .before .before .if2 .left) _ (c .before .chain .ensures)
+    let p = n .before .before .pre in
+    child-group parallel _ _ _ _ _ (p .1 .few) _ (n .node-at .ensures)
+    _ _ _ _ _ _ _ (c .before .before .before .before .before .if2 .left) _ (c .before .chain .ensures)
     (c .grouped .ensures)
 
 pub +chain+chain-child+side+side-child-spec : {M : Type 1} → statement M

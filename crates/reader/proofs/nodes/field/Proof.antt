@@ -1,87 +1,67 @@
+-- `nodes::field` meets its contract: one byte holds the bits, or two do.
 use borrow.Author.Needs.{needs}
 use native.Mathlib.Omega.{arith}
 use Rattle.reader.proofs.Windows.{divisor, one-byte, two-bytes}
 use Rattle.reader.proofs.nodes.field.Statement.{statement}
 use Rattle.reader.proofs.nodes.field.Tie as tie
-use Rattle.reader.proofs.nodes.field.Reads as reads
-use Rattle.reader.proofs.nodes.field.Lts as lts
-use Rattle.reader.proofs.nodes.wide.Reads as wide-reads
 
--- src/nodes.rt:27:15
 add-end : tie.Need-add-end
 add-end c = search needs
 
--- src/nodes.rt:29:22
 shared-slice-read-wide : tie.Need-shared-slice-read-wide
 shared-slice-read-wide c = search needs
 
--- src/nodes.rt:29:17
 wide-requires : tie.Need-wide-requires
 wide-requires c κs = search needs
 
--- src/nodes.rt:29:17
 shr-result : tie.Need-shr-result
 shr-result c = search needs
 
--- src/nodes.rt:29:49
 shl-result : tie.Need-shl-result
 shl-result c = search needs
 
--- src/nodes.rt:29:16
 rem-result : tie.Need-rem-result
 rem-result c = let a = c .before .before .before .before .args in divisor (a .width) (c .before .before .before .before .pre .1)
 
--- src/nodes.rt:29:9
 returns : tie.Need-returns
 returns c =
     let s = c .before .before .before .before in
-    one-byte (s .args .bytes .now) (s .args .at) (s .args .width) (s .pre .1) (s .pre .2) (c .wide .result) (s .pre .0) (c .before .before .if1 .taken) (c .wide .ensures .0)
+    one-byte (s .args .bytes .now) (s .args .at) (s .args .width) (s .pre .1) (s .pre .2)
+    (c .wide .result) (s .pre .0) (c .before .before .if1 .taken) (c .wide .ensures .0)
 
--- src/nodes.rt:31:21
 shared-slice-read-wide-2 : tie.Need-shared-slice-read-wide-2
 shared-slice-read-wide-2 c = search needs
 
--- src/nodes.rt:31:16
 wide-requires-2 : tie.Need-wide-requires-2
 wide-requires-2 c κs = search needs
 
--- src/nodes.rt:31:16
 mul-pair : tie.Need-mul-pair
 mul-pair c = omega arith
 
--- src/nodes.rt:31:50
 add-wide : tie.Need-add-wide
 add-wide c = search needs
 
--- src/nodes.rt:31:44
 shared-slice-read-wide-3 : tie.Need-shared-slice-read-wide-3
 shared-slice-read-wide-3 c = search needs
 
--- src/nodes.rt:31:39
 wide-requires-3 : tie.Need-wide-requires-3
 wide-requires-3 c κs = search needs
 
--- src/nodes.rt:31:16
 add-pair : tie.Need-add-pair
 add-pair c = omega arith
 
--- src/nodes.rt:32:15
 sub-result : tie.Need-sub-result
 sub-result c = search needs
 
--- src/nodes.rt:32:6
 shr-result-2 : tie.Need-shr-result-2
 shr-result-2 c = search needs
 
--- src/nodes.rt:32:29
 shl-result-2 : tie.Need-shl-result-2
 shl-result-2 c = search needs
 
--- src/nodes.rt:32:5
 rem-result-2 : tie.Need-rem-result-2
 rem-result-2 c = let s = c .before .before .before .before .before .before in divisor (s .args .width) (s .pre .1)
 
--- src/nodes.rt:22:1
 returns-2 : tie.Need-returns-2
 returns-2 c =
     let s = c .before .before .before .before .before .before in

@@ -1,32 +1,24 @@
+-- `nodes::filled` meets its contract.
 use borrow.Author.Needs.{needs}
 use Rattle.reader.proofs.Filling.{fills-none, fills-many, fills-field}
 use Rattle.reader.proofs.nodes.filled.Statement.{statement}
 use Rattle.reader.proofs.nodes.filled.Tie as tie
-use Rattle.reader.proofs.nodes.filled.Reads as reads
-use Rattle.reader.proofs.nodes.filled.Lts as lts
-use Rattle.reader.proofs.nodes.field.Reads as field-reads
 
--- src/nodes.rt:64:16
 mul-left : tie.Need-mul-left
 mul-left c = search needs
 
--- src/nodes.rt:64:16
 sub-left : tie.Need-sub-left
 sub-left c = search needs
 
--- src/nodes.rt:66:9
 returns : tie.Need-returns
 returns c = let a = c .before .before .args in fills-none (a .bytes .now) (a .at) (c .if1 .taken)
 
--- src/nodes.rt:69:9
 returns-2 : tie.Need-returns-2
 returns-2 c = let a = c .before .before .before .args in fills-many (a .bytes .now) (a .at) (c .if2 .taken)
 
--- src/nodes.rt:71:5
 field-requires : tie.Need-field-requires
 field-requires c κs = search needs
 
--- src/nodes.rt:60:1
 returns-3 : tie.Need-returns-3
 returns-3 c =
     let s = c .before .before .before .before in

@@ -1,3 +1,4 @@
+-- `parts::grouped` meets its contract.
 use borrow.Author.Needs.{needs}
 use mathlib.Core.Path.{refl}
 use native.Mathlib.Omega.{arith}
@@ -5,34 +6,25 @@ use borrow.Author.Tests.{not-true, not-false}
 use Rattle.poset.proofs.Laws.{clash}
 use Rattle.reader.proofs.parts.grouped.Statement.{statement}
 use Rattle.reader.proofs.parts.grouped.Tie as tie
-use Rattle.reader.proofs.parts.grouped.Reads as reads
-use Rattle.reader.proofs.parts.grouped.Lts as lts
-use Rattle.reader.proofs.parts.refused.Reads as refused-reads
 
--- src/parts.rt:78:9
 refused-requires : tie.Need-refused-requires
 refused-requires c κs = search needs
 
--- src/parts.rt:78:9
 returns : tie.Need-returns
 returns c = record {
   some = λ e. absurd (clash e (c .refused .ensures));
   none = λ _ ok _. clash ok (not-true _ (c .before .if1 .taken));
 }
 
--- src/parts.rt:81:9
 refused-requires-2 : tie.Need-refused-requires-2
 refused-requires-2 c κs = search needs
 
--- src/parts.rt:81:9
 returns-2 : tie.Need-returns-2
 returns-2 c = record { some = λ e. absurd (clash e (c .refused2 .ensures)); none = λ _ _ l. omega (arith, c .before .if2 .taken) }
 
--- src/parts.rt:87:17
 add-t4 : tie.Need-add-t4
 add-t4 c = omega (arith, c .before .before .before .before .before .pre (not-false _ (c .before .before .before .if1 .left)))
 
--- src/parts.rt:73:1
 returns-3 : tie.Need-returns-3
 returns-3 c = record { some = λ _. (not-false _ (c .before .before .before .if1 .left), c .before .if2 .left, refl); none = λ e. absurd (clash refl e) }
 
