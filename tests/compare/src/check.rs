@@ -1,0 +1,293 @@
+//! One input held against `second`, and the count of all of them.
+
+use crate::ffi::{self, Areas, Lent};
+use second::{packed, Outcome};
+use std::collections::{BTreeMap, HashSet};
+use std::fmt::Write;
+
+/// Areas long enough for any record and any reduced orders.
+pub const ENOUGH: (usize, usize) = (272, 8192);
+
+const GUARD: usize = 64;
+/// Failures printed in full.
+const SHOWN: u64 = 5;
+
+#[derive(Clone, Hash, PartialEq, Eq)]
+pub enum Input {
+    Sheet(Vec<u8>),
+    Pairs(u16, Vec<u16>),
+    Record(Vec<u8>),
+}
+
+impl Input {
+    pub fn second(&self, record_area: usize, reduced_area: usize) -> Outcome {
+        match self {
+            Input::Sheet(sheet) => second::analyse_sheet(sheet, record_area, reduced_area),
+            Input::Pairs(count, list) => {
+                second::analyse_pairs(*count, list, record_area, reduced_area)
+            }
+            Input::Record(record) => second::read_record(record, reduced_area),
+        }
+    }
+
+    fn show(&self) -> String {
+        match self {
+            Input::Sheet(sheet) => format!("sheet b\"{}\"", sheet.escape_ascii()),
+            Input::Pairs(count, list) => format!("pair list: count {count}, list {list:?}"),
+            Input::Record(record) => format!("record {}", hex(record)),
+        }
+    }
+}
+
+fn hex(bytes: &[u8]) -> String {
+    bytes.iter().map(|byte| format!("{byte:02x}")).collect()
+}
+
+/// A patterned area with patterned guard bytes on both sides.
+pub struct Guarded {
+    bytes: Vec<u8>,
+    before: Vec<u8>,
+}
+
+impl Guarded {
+    fn new(length: usize, pattern: &mut u64) -> Guarded {
+        let mut bytes = Vec::with_capacity(length + 2 * GUARD + 8);
+        while bytes.len() < length + 2 * GUARD {
+            *pattern = pattern
+                .wrapping_mul(6364136223846793005)
+                .wrapping_add(1442695040888963407);
+            bytes.extend_from_slice(&(*pattern ^ *pattern >> 31).to_le_bytes());
+        }
+        bytes.truncate(length + 2 * GUARD);
+        Guarded {
+            before: bytes.clone(),
+            bytes,
+        }
+    }
+
+    pub fn pointer(&mut self) -> *mut u8 {
+        self.bytes[GUARD..].as_mut_ptr()
+    }
+
+    pub fn length(&self) -> usize {
+        self.bytes.len() - 2 * GUARD
+    }
+
+    fn area(&self) -> &[u8] {
+        &self.bytes[GUARD..GUARD + self.length()]
+    }
+
+    /// Whether the area begins with the written bytes and all else, guards
+    /// included, is as it was.
+    fn is(&self, written: &[u8]) -> bool {
+        let mut expected = self.before.clone();
+        if written.len() > self.length() {
+            return false;
+        }
+        expected[GUARD..GUARD + written.len()].copy_from_slice(written);
+        self.bytes == expected
+    }
+
+    /// The bytes that are not as they were, by their offset from the area.
+    fn show(&self) -> String {
+        let changed = |i: &usize| self.bytes[*i] != self.before[*i];
+        let places: Vec<isize> = (0..self.bytes.len())
+            .filter(changed)
+            .map(|i| i as isize - GUARD as isize)
+            .collect();
+        match (places.first(), places.last()) {
+            (Some(first), Some(last)) => {
+                let end = (*last + 1).clamp(0, self.length() as isize) as usize;
+                format!(
+                    "{} (changed from {first} to {last})",
+                    hex(&self.area()[..end])
+                )
+            }
+            _ => "untouched".to_string(),
+        }
+    }
+}
+
+#[derive(Default)]
+pub struct Tally {
+    pub family: &'static str,
+    pub inputs: u64,
+    pub failed: u64,
+    /// Inputs of each family, and of those the answers by number.
+    pub families: BTreeMap<&'static str, [u64; 12]>,
+    distinct: HashSet<u64>,
+    pattern: u64,
+}
+
+impl Tally {
+    pub fn add(&mut self, other: Tally) {
+        self.inputs += other.inputs;
+        self.failed += other.failed;
+        for (family, answers) in other.families {
+            let sums = self.families.entry(family).or_default();
+            for (sum, answer) in sums.iter_mut().zip(answers) {
+                *sum += answer;
+            }
+        }
+        self.distinct.extend(other.distinct);
+    }
+
+    pub fn distinct(&self) -> usize {
+        self.distinct.len()
+    }
+
+    /// Holds every entry that takes the input against `second`; counts one input.
+    pub fn compare(&mut self, input: &Input, record_area: usize, reduced_area: usize) -> Outcome {
+        let expected = input.second(record_area, reduced_area);
+        let lent = (record_area, reduced_area);
+        let wrong = match input {
+            Input::Sheet(sheet) => self
+                .call(
+                    "ordersheet_analyse",
+                    sheet,
+                    lent,
+                    false,
+                    &expected,
+                    ffi::analyse,
+                )
+                .or_else(|| {
+                    self.call(
+                        "ordersheet_test_sheet",
+                        sheet,
+                        lent,
+                        true,
+                        &expected,
+                        ffi::test_sheet,
+                    )
+                }),
+            Input::Pairs(count, list) => {
+                let call =
+                    |list: Lent<u16>, areas: &mut Areas| ffi::test_pairs(*count, list, areas);
+                self.call("ordersheet_test_pairs", list, lent, true, &expected, call)
+            }
+            Input::Record(record) => self
+                .call("ordersheet_read", record, lent, false, &expected, ffi::read)
+                .or_else(|| {
+                    self.call(
+                        "ordersheet_test_read",
+                        record,
+                        lent,
+                        true,
+                        &expected,
+                        ffi::test_read,
+                    )
+                }),
+        };
+        self.count(input, record_area, reduced_area, expected.number);
+        if let Some(wrong) = wrong {
+            let areas = format!("record area {record_area}, reduced area {reduced_area}");
+            self.fail(&format!("{}\n  {areas}\n{wrong}", input.show()));
+        }
+        expected
+    }
+
+    /// The same with areas that are long enough; an accepted sheet's or list's
+    /// record is read back.
+    pub fn compare_enough(&mut self, input: &Input) -> Outcome {
+        let outcome = self.compare(input, ENOUGH.0, ENOUGH.1);
+        self.read_back(&outcome);
+        outcome
+    }
+
+    /// Reads the record of an accepted sheet or pair list; what comes back must
+    /// be what the analysis gave.
+    pub fn read_back(&mut self, outcome: &Outcome) {
+        if outcome.record.is_empty() {
+            return;
+        }
+        let input = Input::Record(outcome.record.clone());
+        let back = self.compare(&input, 0, outcome.reduced.len());
+        let same = Outcome {
+            record: Vec::new(),
+            ..outcome.clone()
+        };
+        assert!(back == same, "second itself reads back something else");
+    }
+
+    fn count(&mut self, input: &Input, record_area: usize, reduced_area: usize, number: u64) {
+        use std::hash::{DefaultHasher, Hash, Hasher};
+        self.inputs += 1;
+        self.families.entry(self.family).or_default()[number as usize] += 1;
+        let mut hasher = DefaultHasher::new();
+        (input, record_area, reduced_area).hash(&mut hasher);
+        self.distinct.insert(hasher.finish());
+    }
+
+    fn fail(&mut self, report: &str) {
+        self.failed += 1;
+        if self.failed <= SHOWN {
+            eprintln!("FAILED in {}: {report}\n", self.family);
+        }
+    }
+
+    /// One call with a fresh copy of the input and fresh areas; what is wrong
+    /// with it, if anything.
+    fn call<T: Clone + PartialEq>(
+        &mut self,
+        entry: &str,
+        input: &[T],
+        lent: (usize, usize),
+        sequences: bool,
+        expected: &Outcome,
+        call: impl FnOnce(Lent<T>, &mut Areas) -> u64,
+    ) -> Option<String> {
+        let mut copy = input.to_vec();
+        let mut areas = Areas {
+            record: Guarded::new(lent.0, &mut self.pattern),
+            reduced: Guarded::new(lent.1, &mut self.pattern),
+            forward: Guarded::new(128, &mut self.pattern),
+            reverse: Guarded::new(128, &mut self.pattern),
+        };
+        let answer = call(
+            Lent {
+                pointer: copy.as_mut_ptr(),
+                length: copy.len(),
+            },
+            &mut areas,
+        );
+        let none: &[u8] = &[];
+        let sequence = |entries| if sequences { entries } else { none };
+        let right = answer == packed(expected.number, expected.places)
+            && areas.record.is(&expected.record)
+            && areas.reduced.is(&expected.reduced)
+            && areas.forward.is(sequence(&expected.forward))
+            && areas.reverse.is(sequence(&expected.reverse))
+            && copy == input;
+        if right {
+            return None;
+        }
+        let mut report = String::new();
+        let places = expected.places;
+        let _ = writeln!(report, "  second: {} {places:?}", expected.number);
+        let _ = writeln!(report, "    record {}", hex(&expected.record));
+        let _ = writeln!(report, "    reduced {}", hex(&expected.reduced));
+        if sequences {
+            let _ = writeln!(report, "    forward {}", hex(&expected.forward));
+            let _ = writeln!(report, "    reverse {}", hex(&expected.reverse));
+        }
+        let places = [
+            answer >> 8 & 0xffff,
+            answer >> 24 & 0xffff,
+            answer >> 40 & 0xff,
+            answer >> 48,
+        ];
+        let _ = writeln!(
+            report,
+            "  {entry}: {} {places:?} (hexadecimal {answer:x})",
+            answer & 0xff
+        );
+        let _ = writeln!(report, "    record {}", areas.record.show());
+        let _ = writeln!(report, "    reduced {}", areas.reduced.show());
+        let _ = writeln!(report, "    forward {}", areas.forward.show());
+        let _ = writeln!(report, "    reverse {}", areas.reverse.show());
+        if copy != input {
+            let _ = writeln!(report, "    the input was changed");
+        }
+        Some(report)
+    }
+}

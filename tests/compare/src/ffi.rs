@@ -1,0 +1,148 @@
+//! The C entries of the library under test, and nothing else that is unsafe but
+//! the mock's own bodies.
+
+use crate::check::Guarded;
+
+extern "C" {
+    fn ordersheet_analyse(
+        sheet: *const u8,
+        sheet_len: usize,
+        record: *mut u8,
+        record_len: usize,
+        reduced: *mut u8,
+        reduced_len: usize,
+    ) -> u64;
+
+    fn ordersheet_read(
+        record: *const u8,
+        record_len: usize,
+        reduced: *mut u8,
+        reduced_len: usize,
+    ) -> u64;
+
+    fn ordersheet_test_sheet(
+        sheet: *const u8,
+        sheet_len: usize,
+        record: *mut u8,
+        record_len: usize,
+        reduced: *mut u8,
+        reduced_len: usize,
+        forward: *mut u8,
+        forward_len: usize,
+        reverse: *mut u8,
+        reverse_len: usize,
+    ) -> u64;
+
+    fn ordersheet_test_pairs(
+        count: u16,
+        list: *const u16,
+        list_len: usize,
+        record: *mut u8,
+        record_len: usize,
+        reduced: *mut u8,
+        reduced_len: usize,
+        forward: *mut u8,
+        forward_len: usize,
+        reverse: *mut u8,
+        reverse_len: usize,
+    ) -> u64;
+
+    fn ordersheet_test_read(
+        record: *const u8,
+        record_len: usize,
+        reduced: *mut u8,
+        reduced_len: usize,
+        forward: *mut u8,
+        forward_len: usize,
+        reverse: *mut u8,
+        reverse_len: usize,
+    ) -> u64;
+}
+
+/// An input lent to a call.
+pub struct Lent<T> {
+    pub pointer: *const T,
+    pub length: usize,
+}
+
+/// The areas lent to a call.
+pub struct Areas {
+    pub record: Guarded,
+    pub reduced: Guarded,
+    pub forward: Guarded,
+    pub reverse: Guarded,
+}
+
+pub fn analyse(sheet: Lent<u8>, areas: &mut Areas) -> u64 {
+    unsafe {
+        ordersheet_analyse(
+            sheet.pointer,
+            sheet.length,
+            areas.record.pointer(),
+            areas.record.length(),
+            areas.reduced.pointer(),
+            areas.reduced.length(),
+        )
+    }
+}
+
+pub fn read(record: Lent<u8>, areas: &mut Areas) -> u64 {
+    unsafe {
+        ordersheet_read(
+            record.pointer,
+            record.length,
+            areas.reduced.pointer(),
+            areas.reduced.length(),
+        )
+    }
+}
+
+pub fn test_sheet(sheet: Lent<u8>, areas: &mut Areas) -> u64 {
+    unsafe {
+        ordersheet_test_sheet(
+            sheet.pointer,
+            sheet.length,
+            areas.record.pointer(),
+            areas.record.length(),
+            areas.reduced.pointer(),
+            areas.reduced.length(),
+            areas.forward.pointer(),
+            areas.forward.length(),
+            areas.reverse.pointer(),
+            areas.reverse.length(),
+        )
+    }
+}
+
+pub fn test_pairs(count: u16, list: Lent<u16>, areas: &mut Areas) -> u64 {
+    unsafe {
+        ordersheet_test_pairs(
+            count,
+            list.pointer,
+            list.length,
+            areas.record.pointer(),
+            areas.record.length(),
+            areas.reduced.pointer(),
+            areas.reduced.length(),
+            areas.forward.pointer(),
+            areas.forward.length(),
+            areas.reverse.pointer(),
+            areas.reverse.length(),
+        )
+    }
+}
+
+pub fn test_read(record: Lent<u8>, areas: &mut Areas) -> u64 {
+    unsafe {
+        ordersheet_test_read(
+            record.pointer,
+            record.length,
+            areas.reduced.pointer(),
+            areas.reduced.length(),
+            areas.forward.pointer(),
+            areas.forward.length(),
+            areas.reverse.pointer(),
+            areas.reverse.length(),
+        )
+    }
+}

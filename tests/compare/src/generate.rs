@@ -1,0 +1,456 @@
+//! Inputs made from a seed.
+
+/// xorshift64* by Marsaglia and Vigna.
+pub struct Rng(u64);
+
+impl Rng {
+    pub fn new(seed: u64) -> Rng {
+        let mut rng = Rng(seed.wrapping_mul(0x9e37_79b9_7f4a_7c15) | 1);
+        for _ in 0..8 {
+            rng.next();
+        }
+        rng
+    }
+
+    fn next(&mut self) -> u64 {
+        self.0 ^= self.0 >> 12;
+        self.0 ^= self.0 << 25;
+        self.0 ^= self.0 >> 27;
+        self.0.wrapping_mul(0x2545_f491_4f6c_dd1d)
+    }
+
+    /// A number below the bound.
+    pub fn below(&mut self, bound: usize) -> usize {
+        (((self.next() >> 32) * bound as u64) >> 32) as usize
+    }
+
+    /// A number from the first to the last, both included.
+    pub fn from(&mut self, first: usize, last: usize) -> usize {
+        first + self.below(last - first + 1)
+    }
+
+    pub fn percent(&mut self, chance: usize) -> bool {
+        self.below(100) < chance
+    }
+
+    pub fn pick<T: Copy>(&mut self, of: &[T]) -> T {
+        of[self.below(of.len())]
+    }
+
+    pub fn shuffle<T>(&mut self, list: &mut [T]) {
+        for i in (1..list.len()).rev() {
+            list.swap(i, self.below(i + 1));
+        }
+    }
+}
+
+/// A job count, mostly small.
+pub fn job_count(rng: &mut Rng) -> usize {
+    match rng.below(1000) {
+        0..=719 => rng.from(1, 8),
+        720..=939 => rng.from(9, 24),
+        940..=989 => rng.from(25, 64),
+        _ => rng.from(65, 128),
+    }
+}
+
+pub type Orders = Vec<(usize, usize)>;
+
+/// A tree, plain or not.
+#[derive(Clone)]
+pub enum Shape {
+    Leaf(usize),
+    Group { side: bool, children: Vec<Shape> },
+}
+
+impl Shape {
+    pub fn jobs(&self) -> Vec<usize> {
+        match self {
+            Shape::Leaf(job) => vec![*job],
+            Shape::Group { children, .. } => children.iter().flat_map(Shape::jobs).collect(),
+        }
+    }
+}
+
+/// How a shape's jobs are parted.
+#[derive(Clone, Copy)]
+struct Style {
+    /// 0: two parts, 1: one job and the rest, 2: up to six parts, 3: any of
+    /// these, single jobs included.
+    parting: usize,
+    /// Chance that a group in a group is of the other kind.
+    other_kind: usize,
+}
+
+/// A tree on the jobs 0 to count - 1 in a shuffled order. With `alternating`
+/// every group in a group is of the other kind.
+pub fn shape(rng: &mut Rng, count: usize, alternating: bool) -> Shape {
+    let mut jobs: Vec<usize> = (0..count).collect();
+    if !rng.percent(10) {
+        rng.shuffle(&mut jobs);
+    }
+    let other_kind = if alternating {
+        100
+    } else {
+        rng.pick(&[50, 80, 100])
+    };
+    let style = Style {
+        parting: rng.below(4),
+        other_kind,
+    };
+    let side = rng.percent(50);
+    shape_of(rng, &jobs, side, style)
+}
+
+fn shape_of(rng: &mut Rng, jobs: &[usize], side: bool, style: Style) -> Shape {
+    if jobs.len() == 1 {
+        return Shape::Leaf(jobs[0]);
+    }
+    let parting = if style.parting == 3 {
+        rng.below(4)
+    } else {
+        style.parting
+    };
+    let mut cuts = match parting {
+        0 => vec![rng.from(1, jobs.len() - 1)],
+        1 => vec![if rng.percent(50) { 1 } else { jobs.len() - 1 }],
+        2 => (0..rng.from(1, 5))
+            .map(|_| rng.from(1, jobs.len() - 1))
+            .collect(),
+        _ => (1..jobs.len()).collect(),
+    };
+    cuts.extend([0, jobs.len()]);
+    cuts.sort();
+    cuts.dedup();
+    let mut children = Vec::new();
+    for ends in cuts.windows(2) {
+        let kind = if rng.percent(style.other_kind) {
+            !side
+        } else {
+            side
+        };
+        children.push(shape_of(rng, &jobs[ends[0]..ends[1]], kind, style));
+    }
+    Shape::Group { side, children }
+}
+
+/// Side children sorted by smallest job, all the way down.
+pub fn sort_sides(shape: &mut Shape) {
+    if let Shape::Group { side, children } = shape {
+        children.iter_mut().for_each(sort_sides);
+        if *side {
+            children.sort_by_key(|child| child.jobs().into_iter().min());
+        }
+    }
+}
+
+/// The orders that a tree cannot do without, and all that it means.
+#[derive(Default)]
+pub struct Meant {
+    pub needed: Orders,
+    pub all: Orders,
+}
+
+pub fn meant(shape: &Shape) -> Meant {
+    let mut meant = Meant::default();
+    ends(shape, &mut meant);
+    meant
+}
+
+/// The first and the last jobs of a shape.
+fn ends(shape: &Shape, meant: &mut Meant) -> (Vec<usize>, Vec<usize>) {
+    let Shape::Group { side, children } = shape else {
+        return (shape.jobs(), shape.jobs());
+    };
+    let each: Vec<_> = children.iter().map(|child| ends(child, meant)).collect();
+    if *side {
+        let join = |list: Vec<&Vec<usize>>| list.into_iter().flatten().copied().collect();
+        return (
+            join(each.iter().map(|(first, _)| first).collect()),
+            join(each.iter().map(|(_, last)| last).collect()),
+        );
+    }
+    for i in 1..children.len() {
+        for &u in &each[i - 1].1 {
+            for &v in &each[i].0 {
+                meant.needed.push((u, v));
+            }
+        }
+        let later = children[i].jobs();
+        for u in children[..i].iter().flat_map(Shape::jobs) {
+            for &v in &later {
+                meant.all.push((u, v));
+            }
+        }
+    }
+    (each[0].0.clone(), each[children.len() - 1].1.clone())
+}
+
+/// A random series-parallel order with redundant orders and repeats, shuffled.
+pub fn series_parallel(rng: &mut Rng, count: usize) -> Orders {
+    let shape = shape(rng, count, false);
+    let Meant {
+        needed: mut orders,
+        all,
+    } = meant(&shape);
+    let room = 4096 - orders.len();
+    if !all.is_empty() {
+        let extra = match rng.below(4) {
+            0 => 0,
+            1 => rng.below(3),
+            2 => rng.below(count + 1),
+            _ => rng.below(all.len() + 1),
+        };
+        for _ in 0..extra.min(room) {
+            // A repeat now and then.
+            let order = if rng.percent(20) {
+                rng.pick(&orders)
+            } else {
+                rng.pick(&all)
+            };
+            orders.push(order);
+        }
+    }
+    if !rng.percent(15) {
+        rng.shuffle(&mut orders);
+    }
+    orders
+}
+
+/// Any directed graph: with circles or without, sparse or dense.
+pub fn any_graph(rng: &mut Rng, count: usize) -> Orders {
+    let mut rank: Vec<usize> = (0..count).collect();
+    rng.shuffle(&mut rank);
+    let along_rank = rng.percent(70);
+    let orders = match rng.below(4) {
+        0 => rng.below(count + 1),
+        1 => rng.below(2 * count + 1),
+        2 => rng.below(count * count / 4 + 1),
+        _ => rng.below(count * count + 1),
+    };
+    let mut list = Vec::new();
+    for _ in 0..orders.min(4096) {
+        let (u, v) = (rng.below(count), rng.below(count));
+        if u == v && !rng.percent(2) {
+            continue;
+        }
+        let turned = along_rank && rank[u] > rank[v] && !rng.percent(1);
+        list.push(if turned { (v, u) } else { (u, v) });
+    }
+    list
+}
+
+pub fn sheet(count: usize, orders: &[(usize, usize)]) -> Vec<u8> {
+    let mut text = format!("{count}\n");
+    for (u, v) in orders {
+        text += &format!("{u} {v}\n");
+    }
+    text.into_bytes()
+}
+
+pub fn list(orders: &[(usize, usize)]) -> Vec<u16> {
+    orders
+        .iter()
+        .flat_map(|&(u, v)| [u as u16, v as u16])
+        .collect()
+}
+
+/// One edit somewhere in a text.
+pub fn edit(rng: &mut Rng, text: &mut Vec<u8>) {
+    let likely = b"0123456789 \n\n  00";
+    let hostile = b"\r\t-+,./:x\0\x0b\x7f\x80\xff";
+    let byte = match rng.below(10) {
+        0 => rng.below(256) as u8,
+        1..=2 => rng.pick(hostile),
+        _ => rng.pick(likely),
+    };
+    let at = rng.below(text.len() + 1);
+    let inside = at < text.len();
+    match rng.below(10) {
+        0..=2 if inside => text[at] = byte,
+        3..=4 if inside => drop(text.remove(at)),
+        5 if at + 1 < text.len() => text.swap(at, at + 1),
+        6 => text.truncate(at),
+        7 => {
+            // Some bytes again.
+            let end = rng.from(at, text.len().min(at + 9));
+            let piece = text[at..end].to_vec();
+            let to = rng.below(text.len() + 1);
+            text.splice(to..to, piece);
+        }
+        8 if inside && text[at].is_ascii_digit() => text[at] = b'0' + rng.below(10) as u8,
+        _ => text.insert(at, byte),
+    }
+}
+
+fn bit(bytes: &[u8], at: usize) -> bool {
+    bytes[at / 8] & 0x80 >> (at % 8) != 0
+}
+
+pub fn flip(bytes: &[u8], at: usize) -> Vec<u8> {
+    let mut bytes = bytes.to_vec();
+    bytes[at / 8] ^= 0x80 >> (at % 8);
+    bytes
+}
+
+/// The first bits of the job numbers in a record.
+pub fn job_fields(record: &[u8]) -> Vec<usize> {
+    let count = (record[0] >> 1) as usize + 1;
+    let mut fields = Vec::new();
+    let mut at = 7;
+    while fields.len() < count {
+        if bit(record, at) {
+            at += 9;
+        } else {
+            fields.push(at + 1);
+            at += 8;
+        }
+    }
+    fields
+}
+
+/// The record with two job numbers, given by their first bits, exchanged.
+pub fn swap_jobs(record: &[u8], one: usize, other: usize) -> Vec<u8> {
+    let mut swapped = record.to_vec();
+    for i in 0..7 {
+        if bit(record, one + i) != bit(record, other + i) {
+            swapped = flip(&flip(&swapped, one + i), other + i);
+        }
+    }
+    swapped
+}
+
+/// Bits written one after the other.
+#[derive(Default)]
+pub struct Bits(Vec<bool>);
+
+impl Bits {
+    pub fn put(&mut self, value: usize, width: usize) {
+        for place in (0..width).rev() {
+            self.0.push(value >> place & 1 == 1);
+        }
+    }
+
+    pub fn bytes(&self) -> Vec<u8> {
+        let byte = |bits: &[bool]| {
+            bits.iter()
+                .enumerate()
+                .fold(0, |byte, (i, &set)| byte | (set as u8) << (7 - i))
+        };
+        self.0.chunks(8).map(byte).collect()
+    }
+}
+
+/// What is wrong with a record made by hand.
+#[derive(Clone, Copy, PartialEq)]
+pub enum Flaw {
+    None,
+    WrongCount,
+    JobTwice,
+    JobOffTheList,
+    GroupOfOne,
+    UnsortedSides,
+    SameKindInside,
+    FillSet,
+    MoreBytes,
+}
+
+/// The record of a random tree with one flaw, or with none.
+pub fn flawed_record(rng: &mut Rng, flaw: Flaw) -> Vec<u8> {
+    let count = job_count(rng);
+    let mut tree = shape(rng, count, flaw != Flaw::SameKindInside);
+    if flaw != Flaw::UnsortedSides {
+        sort_sides(&mut tree);
+    }
+    let mut stated = count;
+    match flaw {
+        Flaw::WrongCount => {
+            stated = if rng.percent(50) {
+                count + 1
+            } else {
+                rng.from(1, 128)
+            }
+        }
+        Flaw::JobTwice => {
+            let job = rng.below(count);
+            set_leaf(&mut tree, &mut rng.below(count), job);
+        }
+        Flaw::JobOffTheList => {
+            let job = rng.from(count.min(127), 127);
+            set_leaf(&mut tree, &mut rng.below(count), job);
+        }
+        _ => {}
+    }
+    let mut bits = Bits::default();
+    bits.put((stated - 1) & 127, 7);
+    let mut single = if flaw == Flaw::GroupOfOne {
+        rng.below(count)
+    } else {
+        usize::MAX
+    };
+    put(&mut bits, &tree, &mut single, rng.percent(50));
+    if flaw == Flaw::FillSet && bits.0.len() % 8 != 0 {
+        let fill = 8 - bits.0.len() % 8;
+        bits.put(1 << rng.below(fill), fill);
+    }
+    let mut bytes = bits.bytes();
+    if flaw == Flaw::MoreBytes {
+        let more = rng.from(1, 3);
+        bytes.resize(bytes.len() + more, 0);
+    }
+    bytes
+}
+
+/// So many groups of two, chain and side in turn, each the first child of the
+/// one ahead; up to 127 of them make a plain tree.
+pub fn nested_record(groups: usize, side: bool) -> Vec<u8> {
+    let mut bits = Bits::default();
+    bits.put(groups.min(127), 7);
+    for group in 0..groups {
+        bits.put(0b10 | (side ^ (group % 2 == 1)) as usize, 2);
+        bits.put(1, 7);
+    }
+    for job in 0..=groups {
+        bits.put(job.min(127), 8);
+    }
+    bits.bytes()
+}
+
+/// Puts a job on the leaf that has so many leaves left of it.
+fn set_leaf(shape: &mut Shape, left: &mut usize, to: usize) {
+    match shape {
+        Shape::Leaf(job) => {
+            if *left == 0 {
+                *job = to;
+            }
+            *left = left.wrapping_sub(1);
+        }
+        Shape::Group { children, .. } => {
+            children
+                .iter_mut()
+                .for_each(|child| set_leaf(child, left, to));
+        }
+    }
+}
+
+/// Lays out a shape; the leaf with `single` leaves left of it goes into a group
+/// of its own, of the given kind.
+fn put(bits: &mut Bits, shape: &Shape, single: &mut usize, single_side: bool) {
+    match shape {
+        Shape::Leaf(job) => {
+            if *single == 0 {
+                bits.put(0b10 | single_side as usize, 2);
+                bits.put(0, 7);
+            }
+            *single = single.wrapping_sub(1);
+            bits.put(*job, 8);
+        }
+        Shape::Group { side, children } => {
+            bits.put(0b10 | *side as usize, 2);
+            bits.put(children.len() - 1, 7);
+            children
+                .iter()
+                .for_each(|child| put(bits, child, single, single_side));
+        }
+    }
+}

@@ -1,0 +1,42 @@
+//! `ORDERSHEET_LIB_DIR=DIR cargo run --release --offline` holds the library in
+//! DIR against `second`; with `--features mock`, `second` against itself.
+//! `compare` runs every family, `compare WORD...` those whose names hold one of
+//! the words. The last line is `N passed, M failed`, N and M counting inputs: a
+//! sheet or pair list with two area lengths, or a record with one.
+
+use std::process::ExitCode;
+use std::time::Instant;
+
+fn main() -> ExitCode {
+    let words: Vec<String> = std::env::args().skip(1).collect();
+    let mut tasks = compare::families::tasks();
+    tasks.retain(|task| words.is_empty() || words.iter().any(|word| task.family.contains(word)));
+
+    let start = Instant::now();
+    let tally = compare::run(&tasks);
+
+    println!("{:<36}{:>8}   answers by number", "family", "inputs");
+    for (family, answers) in &tally.families {
+        let total: u64 = answers.iter().sum();
+        let each = (0..answers.len()).filter(|&number| answers[number] > 0);
+        let each: Vec<String> = each
+            .map(|number| format!("{number}: {}", answers[number]))
+            .collect();
+        println!("{family:<36}{total:>8}   {}", each.join(", "));
+    }
+    println!(
+        "{} different inputs in {:.1} s",
+        tally.distinct(),
+        start.elapsed().as_secs_f64()
+    );
+    println!(
+        "{} passed, {} failed",
+        tally.inputs - tally.failed,
+        tally.failed
+    );
+    if tally.failed == 0 && tally.inputs > 0 {
+        ExitCode::SUCCESS
+    } else {
+        ExitCode::FAILURE
+    }
+}

@@ -1,0 +1,177 @@
+//! The analysis of order sheets and pair lists, and the record reader, written
+//! from document 01 alone by the plainest search its words allow.
+
+pub mod cases;
+pub mod order;
+pub mod record;
+pub mod sheet;
+pub mod tree;
+
+use tree::Tree;
+
+pub const MOST_JOBS: usize = 128;
+pub const MOST_ORDERS: usize = 4096;
+pub const LONGEST_SHEET: usize = 32_772;
+pub const LONGEST_RECORD: usize = 272;
+
+/// An answer and what is written: on refusal (`number` other than 0) the lists
+/// are empty and the sequences all zeros. Reading a record leaves `record` empty.
+#[derive(Clone, Debug, PartialEq, Eq)]
+pub struct Outcome {
+    pub number: u64,
+    pub places: [u64; 4],
+    /// What is written to the record area.
+    pub record: Vec<u8>,
+    /// What is written to the area for reduced orders, two bytes an order.
+    pub reduced: Vec<u8>,
+    pub forward: [u8; MOST_JOBS],
+    pub reverse: [u8; MOST_JOBS],
+}
+
+fn refused(number: u64, places: [usize; 4]) -> Outcome {
+    Outcome {
+        number,
+        places: places.map(|place| place as u64),
+        record: Vec::new(),
+        reduced: Vec::new(),
+        forward: [0; MOST_JOBS],
+        reverse: [0; MOST_JOBS],
+    }
+}
+
+/// The analysis of a sheet, with areas of the two lengths lent.
+pub fn analyse_sheet(sheet: &[u8], record_area: usize, reduced_area: usize) -> Outcome {
+    if sheet.len() > LONGEST_SHEET {
+        return refused(1, [0; 4]);
+    }
+    match sheet::read(sheet) {
+        Err(place) => refused(2, [place, 0, 0, 0]),
+        Ok((count, orders)) => from_refusal_3(count, &orders, record_area, reduced_area),
+    }
+}
+
+/// The analysis of a pair list, with areas of the two lengths lent.
+pub fn analyse_pairs(count: u16, list: &[u16], record_area: usize, reduced_area: usize) -> Outcome {
+    if list.len() % 2 == 1 {
+        return refused(2, [0; 4]);
+    }
+    let orders: Vec<(usize, usize)> = list
+        .chunks(2)
+        .map(|pair| (pair[0] as usize, pair[1] as usize))
+        .collect();
+    from_refusal_3(count as usize, &orders, record_area, reduced_area)
+}
+
+fn from_refusal_3(
+    count: usize,
+    orders: &[(usize, usize)],
+    record_area: usize,
+    reduced_area: usize,
+) -> Outcome {
+    if count == 0 || count > MOST_JOBS {
+        return refused(3, [0; 4]);
+    }
+    if orders.len() > MOST_ORDERS {
+        return refused(4, [0; 4]);
+    }
+    if let Some(at) = orders.iter().position(|&(u, v)| u >= count || v >= count) {
+        return refused(5, [at, 0, 0, 0]);
+    }
+    if let Some(at) = orders.iter().position(|&(u, v)| u == v) {
+        return refused(6, [at, 0, 0, 0]);
+    }
+    let before = order::before(count, orders);
+    if let Some(job) = (0..count).find(|&job| before[job][job]) {
+        return refused(7, [job, 0, 0, 0]);
+    }
+    if let Some(places) = order::first_n(&before) {
+        return refused(8, places);
+    }
+    let tree = tree::of_order(&before).expect("an order without an N has a tree");
+    let record = record::lay_out(count, &tree);
+    let reduced = order::reduced(&before);
+    if record_area < record.len() {
+        return refused(9, [0; 4]);
+    }
+    if reduced_area < 2 * reduced.len() {
+        return refused(10, [0; 4]);
+    }
+    accepted(record.len(), &tree, &reduced, record)
+}
+
+/// The record reader, with an area of the given length lent.
+pub fn read_record(record: &[u8], reduced_area: usize) -> Outcome {
+    let Some((count, tree)) = record::read(record) else {
+        return refused(11, [0; 4]);
+    };
+    let reduced = order::reduced(&tree.meaning(count));
+    if reduced_area < 2 * reduced.len() {
+        return refused(10, [0; 4]);
+    }
+    accepted(record.len(), &tree, &reduced, Vec::new())
+}
+
+fn accepted(
+    record_bytes: usize,
+    tree: &Tree,
+    reduced: &[(usize, usize)],
+    record: Vec<u8>,
+) -> Outcome {
+    Outcome {
+        number: 0,
+        places: [
+            record_bytes as u64,
+            reduced.len() as u64,
+            tree.groups() as u64,
+            0,
+        ],
+        record,
+        reduced: reduced
+            .iter()
+            .flat_map(|&(u, v)| [u as u8, v as u8])
+            .collect(),
+        forward: sequence(&tree.forward()),
+        reverse: sequence(&tree.reverse()),
+    }
+}
+
+fn sequence(jobs: &[usize]) -> [u8; MOST_JOBS] {
+    let mut entries = [0; MOST_JOBS];
+    for (entry, &job) in entries.iter_mut().zip(jobs) {
+        *entry = job as u8;
+    }
+    entries
+}
+
+/// The one 64-bit number handed to the planning desk.
+pub fn packed(number: u64, places: [u64; 4]) -> u64 {
+    number + 256 * places[0] + (1 << 24) * places[1] + (1 << 40) * places[2] + (1 << 48) * places[3]
+}
+
+/// What the program `ordersheet` prints for a sheet.
+pub fn printed(sheet: &[u8]) -> Vec<u8> {
+    let outcome = analyse_sheet(sheet, LONGEST_RECORD, 2 * MOST_ORDERS);
+    let [first, second, third, fourth] = outcome.places;
+    if outcome.number != 0 {
+        let number = outcome.number;
+        return format!("refused {number} {first} {second} {third} {fourth}\n").into_bytes();
+    }
+    let mut text = format!("accepted {first} {second} {third}\nrecord ");
+    for byte in &outcome.record {
+        text += &format!("{byte:02x}");
+    }
+    text += "\n";
+    for order in outcome.reduced.chunks(2) {
+        text += &format!("{} {}\n", order[0], order[1]);
+    }
+    // The record's first seven bits are the job count minus 1.
+    let count = (outcome.record[0] >> 1) as usize + 1;
+    for (word, entries) in [("forward", outcome.forward), ("reverse", outcome.reverse)] {
+        text += word;
+        for job in &entries[..count] {
+            text += &format!(" {job}");
+        }
+        text += "\n";
+    }
+    text.into_bytes()
+}

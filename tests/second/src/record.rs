@@ -1,0 +1,82 @@
+//! The record: a string of the characters 0 and 1, turned into bytes.
+
+use crate::tree::Tree;
+use crate::LONGEST_RECORD;
+
+fn field(value: usize) -> String {
+    assert!(value < 128);
+    format!("{value:07b}")
+}
+
+fn node_bits(tree: &Tree) -> String {
+    let (kind, children) = match tree {
+        Tree::Leaf(job) => return "0".to_string() + &field(*job),
+        Tree::Chain(children) => ("0", children),
+        Tree::Side(children) => ("1", children),
+    };
+    let mut bits = "1".to_string() + kind + &field(children.len() - 1);
+    for child in children {
+        bits += &node_bits(child);
+    }
+    bits
+}
+
+/// The bytes of a tree laid out, plain or not.
+pub fn lay_out(count: usize, tree: &Tree) -> Vec<u8> {
+    let mut bits = field(count - 1) + &node_bits(tree);
+    while bits.len() % 8 != 0 {
+        bits += "0";
+    }
+    (0..bits.len() / 8)
+        .map(|i| u8::from_str_radix(&bits[8 * i..8 * i + 8], 2).unwrap())
+        .collect()
+}
+
+/// The job count and the plain tree that the bytes spell, if they are the
+/// record of one.
+pub fn read(record: &[u8]) -> Option<(usize, Tree)> {
+    if record.len() > LONGEST_RECORD {
+        return None;
+    }
+    let bits: String = record.iter().map(|byte| format!("{byte:08b}")).collect();
+    let mut rest = bits.as_str();
+    let count = take_number(&mut rest)? + 1;
+    let tree = take_node(&mut rest)?;
+    let only_fill_follows = rest.len() < 8 && !rest.contains('1');
+    if only_fill_follows && tree.is_plain(count) {
+        Some((count, tree))
+    } else {
+        None
+    }
+}
+
+fn take<'a>(rest: &mut &'a str, length: usize) -> Option<&'a str> {
+    if rest.len() < length {
+        return None;
+    }
+    let (taken, left) = rest.split_at(length);
+    *rest = left;
+    Some(taken)
+}
+
+fn take_number(rest: &mut &str) -> Option<usize> {
+    usize::from_str_radix(take(rest, 7)?, 2).ok()
+}
+
+/// A node and all below it, with no rule tested.
+fn take_node(rest: &mut &str) -> Option<Tree> {
+    if take(rest, 1)? == "0" {
+        return Some(Tree::Leaf(take_number(rest)?));
+    }
+    let kind = take(rest, 1)?;
+    let children = take_number(rest)? + 1;
+    let mut taken = Vec::new();
+    for _ in 0..children {
+        taken.push(take_node(rest)?);
+    }
+    Some(if kind == "0" {
+        Tree::Chain(taken)
+    } else {
+        Tree::Side(taken)
+    })
+}
