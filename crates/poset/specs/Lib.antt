@@ -3,3 +3,4 @@ pub mod Lists
 pub mod Order
 pub mod Tree
 pub mod Decompose
+pub mod Areas

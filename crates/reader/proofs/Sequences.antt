@@ -9,7 +9,8 @@ use lib.Seq.{sets, sets-eq}
 use Rattle.poset.specs.Tree.{Kind, series, parallel, Tree, leaf, node, Forest, last, more, leaves, forestLeaves, joined, reversed, forestReversed}
 use Rattle.record.specs.Bits.{AllBelow}
 use Rattle.reader.specs.Parts.{Lists, Free, Placed, ofTree}
-use Rattle.reader.specs.Answer.{padded, walk}
+use Rattle.reader.specs.Answer.{walk}
+use Rattle.poset.specs.Areas.{padded}
 use Rattle.reader.specs.declared.parts.Part.{Part}
 use Rattle.reader.proofs.Children.{reversed-in}
 use Rattle.reader.proofs.Walks.{strand-walk}

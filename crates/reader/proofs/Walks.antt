@@ -9,7 +9,8 @@ use lib.Seq.{drop-cons, take-suc, getD-drop, set-at, append-snoc, length-take-le
 use Rattle.record.specs.Bits.{AllBelow}
 use Rattle.record.proofs.Below.{below-head, below-tail}
 use Rattle.reader.specs.Parts.{Strand, alone, followed}
-use Rattle.reader.specs.Answer.{padded, walk}
+use Rattle.reader.specs.Answer.{walk}
+use Rattle.poset.specs.Areas.{padded}
 
 pub strand-walk : {next xs : List ℕ} {a b : ℕ} → Strand next a xs b → walk next (length xs) a ≡ xs
 unfolding walk

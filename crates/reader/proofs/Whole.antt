@@ -22,7 +22,8 @@ use Rattle.record.proofs.Records.{layout-filled}
 use Rattle.record.proofs.Theorems.{decode-record, decode-none, layout-length}
 use Rattle.reader.specs.Fields.{At, FieldAt}
 use Rattle.reader.specs.Parts.{Lists, Free, Found, Plain, ofTree}
-use Rattle.reader.specs.Answer.{padded, reading, Reads, walk}
+use Rattle.reader.specs.Answer.{reading, Reads, walk}
+use Rattle.poset.specs.Areas.{padded}
 use Rattle.reader.specs.declared.parts.Part.{Part}
 use Rattle.reader.specs.declared.Reading.{Reading}
 use Rattle.reader.proofs.Positions.{at-of, at-left, at-right, at-join, at-same, bits-injective}

@@ -5,12 +5,9 @@ use mathlib.Core.List.{List, [], _∷_, _++_}
 use mathlib.Core.Bool.{true, false}
 use mathlib.Core.Option.{Option, none, some}
 use lib.ListN.{length, getD, replicate}
+use Rattle.poset.specs.Areas.{padded}
 use Rattle.poset.specs.Tree.{Tree, leaves, reversed, groups}
 use Rattle.reader.specs.declared.Reading.{Reading}
-
--- a list of jobs in the first entries of 128, the others 0
-abbrev pub padded : List ℕ → List ℕ
-padded xs = xs ++ replicate (128 - length xs) 0
 
 -- the job count, the groups, and the forward and the reverse sequence of the tree that the bytes decode to, if they do
 abbrev pub reading : Option (ℕ × Tree) → Reading

@@ -12,7 +12,8 @@ ghost use Prim.Native.Nat.{_≤_};
 ghost use mathlib.Core.Option.{none};
 ghost use Rattle.record.specs.Bits.{AllBelow};
 ghost use Rattle.record.specs.Decode.{decode};
-ghost use Rattle.reader.specs.Answer.{padded, reading, Reads, walk};
+ghost use Rattle.reader.specs.Answer.{reading, Reads, walk};
+ghost use Rattle.poset.specs.Areas.{padded};
 
 // ok: whether the bytes are a record. Then the job count, the number of groups, and the sequences, whose entries from the
 // count on are 0; all 0 otherwise.

@@ -9,7 +9,8 @@ use lib.Seq.{sets, sets-eq, length-sets}
 use Rattle.poset.specs.Lists.{any, keep, upFrom, below}
 use Rattle.poset.specs.Order.{Arc, pairsOf}
 use Rattle.relation.specs.Table.{has, holds, members, Least, Inside}
-use Rattle.relation.specs.Arcs.{arcBytes, overlay}
+use Rattle.relation.specs.Arcs.{arcBytes}
+use Rattle.poset.specs.Areas.{overlay}
 use Rattle.relation.proofs.Lists.{range-start, range-step, range-end}
 use Rattle.relation.proofs.Sets.{members-step, members-end, members-below, members-some}
 

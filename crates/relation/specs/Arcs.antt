@@ -37,10 +37,6 @@ loop a = eqb (a .0) (a .1)
 unfoldable pub arcBytes : List Arc → List ℕ
 arcBytes = flatMap (λ a. a .0 ∷ a .1 ∷ [])
 
--- what an area holds after writing at its start; the rest stays
-unfoldable pub overlay : List ℕ → List ℕ → List ℕ
-overlay written area = written ++ drop (length written) area
-
 abbrev pub found : Found → Option ℕ
 found (found-variants.At i) = some i
 found found-variants.Nothing = none

@@ -9,7 +9,8 @@ ghost use lib.Seq.{sets};
 ghost use Rattle.poset.specs.Lists.{any, below};
 ghost use Rattle.poset.specs.Order.{Strict, covers, pairsOf};
 ghost use Rattle.relation.specs.Table.{has, holds, members, Inside};
-ghost use Rattle.relation.specs.Arcs.{arcBytes, overlay};
+ghost use Rattle.relation.specs.Arcs.{arcBytes};
+ghost use Rattle.poset.specs.Areas.{overlay};
 
 // The jobs that are after some job after u. A job that is found already has nothing to add.
 fn beyond(t: &[[u64; 2]; 128], u: usize, n: usize) -> [u64; 2]

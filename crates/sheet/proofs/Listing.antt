@@ -6,7 +6,8 @@ use native.Mathlib.Omega.{arith}
 use lib.ListN.{length, take, drop, set, length-append, length-take, length-drop, getD}
 use lib.Seq.{take-all, take-at, take-append-le, drop-cons, set-at, append-snoc, take-nil}
 use Rattle.poset.specs.Order.{Arc}
-use Rattle.sheet.specs.Listing.{numbers, overlay, listing, AddsArc}
+use Rattle.sheet.specs.Listing.{numbers, listing, AddsArc}
+use Rattle.poset.specs.Areas.{overlay}
 
 pub numbers-length : (arcs : List Arc) → length (numbers arcs) ≡ 2 * length arcs
 unfolding numbers

@@ -3,6 +3,7 @@ use Prim.Native.Nat.{ℕ, _/_}
 use mathlib.Core.Path.{_≡_}
 use mathlib.Core.List.{List, [], _∷_, _++_}
 use lib.ListN.{length, take, drop}
+use Rattle.poset.specs.Areas.{overlay}
 use Rattle.poset.specs.Order.{Arc}
 use Rattle.sheet.specs.Scan.{Read, sheet, broken}
 use Rattle.sheet.specs.declared.SheetRead.{SheetRead}
@@ -12,10 +13,6 @@ use Rattle.sheet.specs.declared.SheetRead.the-variants.{Sheet, Broken}
 unfoldable pub numbers : List Arc → List ℕ
 numbers [] = []
 numbers (a ∷ more) = a .0 ∷ a .1 ∷ numbers more
-
--- what an area holds after a call: what was written, and then its own
-unfoldable pub overlay : List ℕ → List ℕ → List ℕ
-overlay written held = written ++ drop (length written) held
 
 -- the arcs' numbers over what a list held: as many arcs as have room
 unfoldable pub listing : List Arc → List ℕ → List ℕ

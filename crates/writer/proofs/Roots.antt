@@ -11,7 +11,8 @@ use lib.Seq.{length-take-le}
 use Rattle.poset.specs.Lists.{any, below, keep, upFrom}
 use Rattle.poset.specs.Order.{Rel, Strict, HasN, comparable, incomparable}
 use Rattle.poset.specs.Tree.{Kind, series, parallel}
-use Rattle.poset.proofs.Laws.{decided, clash, and-left, and-right, and-intro, not-true, not-false, ltb-true, lt-true, keep-yes, false-unless, mem-below, mem-upFrom}
+use Rattle.poset.proofs.Laws.{decided, clash, and-left, and-right, and-intro, not-true, not-false, false-unless}
+use Rattle.poset.proofs.Laws.{ltb-true, lt-true, keep-yes, mem-below, mem-upFrom}
 use Rattle.poset.proofs.Sums.{length-below}
 use Rattle.relation.proofs.Lists.{below-add, keep-append, keep-none}
 use Rattle.poset.proofs.Standing.{near, near-sym, near-either}

@@ -10,8 +10,8 @@ use lib.Dec.{eqb}
 use lib.ListN.{length}
 use Rattle.poset.specs.Lists.{any, below}
 use Rattle.poset.specs.Order.{Rel}
-use Rattle.poset.proofs.Laws.{decided, clash, false-unless, and-left, and-right, and-intro, or-cases, or-left, or-right, not-true, not-false, eqb-true, eqb-same}
-use Rattle.poset.proofs.Laws.{any-hit, any-none, any-miss, below-mem, mem-below}
+use Rattle.poset.proofs.Laws.{decided, clash, false-unless, and-left, and-right, and-intro, or-cases, or-left, or-right}
+use Rattle.poset.proofs.Laws.{not-true, not-false, eqb-true, eqb-same, any-hit, any-none, any-miss, below-mem, mem-below}
 use Rattle.poset.proofs.Sums.{length-keep, bit, sum, sum-le}
 use Rattle.relation.specs.Table.{has, members, Least}
 use Rattle.writer.specs.Parts.{Path, start, next, PartOf, Jobs}
@@ -104,7 +104,8 @@ module _ (near : Rel) (s : List ℕ) (x : ℕ) where
     past : (u : ℕ) → has more u ≡ false → (has todo u ≡ false) ⊎ (u ≡ y)
     past u p =
         ⊎-elim
-        (λ q. inr (same u q (false-unless (any (has todo) (below u)) (λ a. clash (m u ∙ or-left (has others u) (has found u) (o u ∙ and-intro (has todo u) _ q a)) p))))
+        (λ q. inr (same u q
+        (false-unless (any (has todo) (below u)) (λ a. clash (m u ∙ or-left (has others u) (has found u) (o u ∙ and-intro (has todo u) _ q a)) p))))
         (λ q. inl q)
         (decided (has todo u))
       where
@@ -112,7 +113,8 @@ module _ (near : Rel) (s : List ℕ) (x : ℕ) where
         same u q none =
             elim (ℕ-discrete u y) [
               | yes e ↦ e
-              | no e ↦ absurd (⊎-elim (λ l. clash q (least .least u l)) (λ l. clash (least .member) (any-miss (has todo) (below u) none (below-mem l))) (apart u y e))
+              | no e ↦ absurd (⊎-elim (λ l. clash q (least .least u l))
+                  (λ l. clash (least .member) (any-miss (has todo) (below u) none (below-mem l))) (apart u y e))
             ]
           where
             apart : (a b : ℕ) → (a ≡ b → ⊥) → (a < b) ⊎ (b < a)

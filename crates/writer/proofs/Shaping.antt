@@ -21,7 +21,8 @@ use Rattle.relation.specs.Table.{has, members, Least}
 use Rattle.writer.specs.declared.tree.Progress.{Progress}
 use Rattle.writer.specs.Parts.{Splits, Cut, closeOf}
 use Rattle.writer.specs.Stack.{Entry, Stacks, entries, jobsOf, spreadOut, groupField}
-use Rattle.writer.specs.Tokens.{groupToken, tokens, padded}
+use Rattle.writer.specs.Tokens.{groupToken, tokens}
+use Rattle.poset.specs.Areas.{padded}
 use Rattle.writer.proofs.Worklist.{Pending, Todo, spread, todo-leaf, todo-group, todo-none, todo-all, GroupOf}
 use Rattle.writer.proofs.Groups.{kindOf, Alike, splits-group}
 use Rattle.writer.proofs.Roots.{cut-count}
@@ -75,7 +76,8 @@ blank-next xs i x m l e =
 -- the top entry
 top-entry : (a : Arrays) (h top : ℕ) → h ≡ suc top
     → entries (a .stack) (a .starts) (a .kinds) h
-    ≡ record { set = getD (a .stack) top []; start = getD (a .starts) top 0; series = getD (a .kinds) top false } ∷ entries (a .stack) (a .starts) (a .kinds) top
+    ≡ record { set = getD (a .stack) top []; start = getD (a .starts) top 0; series = getD (a .kinds) top false }
+    ∷ entries (a .stack) (a .starts) (a .kinds) top
 unfolding entries
 top-entry a h top e = ap (entries (a .stack) (a .starts) (a .kinds)) e
 
@@ -140,16 +142,19 @@ module _ (n : ℕ) (few : n ≤ 128) (r tied free : Rel) (a : Arrays) (p : Progr
             ∙ ap (λ k. replicate (128 - k) 0) (sym qp);
         reverse-blank = drop-set-lt n (a .reverse) (top-of .start) j (omega (arith, top-ok .0 .fits, top-ok .0 .some)) ∙ x .reverse-blank;
         todo =
-            subst (λ l. Todo n r (take (q .count) (set (a .fields) (p .count) j)) (take (q .placed) (set (a .forward) (p .placed) j)) (set (a .reverse) (top-of .start) j) (q .groups) (pend l))
+            subst (λ l. Todo n r (take (q .count) (set (a .fields) (p .count) j)) (take (q .placed) (set (a .forward) (p .placed) j))
+            (set (a .reverse) (top-of .start) j) (q .groups) (pend l))
             (sym es)
-            (subst (λ k. Todo n r (take (q .count) (set (a .fields) (p .count) j)) (take (q .placed) (set (a .forward) (p .placed) j)) (set (a .reverse) (top-of .start) j) k (pend others))
+            (subst (λ k. Todo n r (take (q .count) (set (a .fields) (p .count) j)) (take (q .placed) (set (a .forward) (p .placed) j))
+            (set (a .reverse) (top-of .start) j) k (pend others))
             (sym qg)
             (subst (λ l. Todo n r l (take (q .placed) (set (a .forward) (p .placed) j)) (set (a .reverse) (top-of .start) j) (p .groups) (pend others))
             (sym (ap (λ k. take k (set (a .fields) (p .count) j)) qc ∙ stored (a .fields) (p .count) j (omega (arith, rm .1, x .fields-size))))
             (subst (λ l. Todo n r (take (p .count) (a .fields) ++ (j ∷ [])) l (set (a .reverse) (top-of .start) j) (p .groups) (pend others))
             (sym (ap (λ k. take k (set (a .forward) (p .placed) j)) qp ∙ stored (a .forward) (p .placed) j (omega (arith, rm .2, x .forward-size))))
             (todo-leaf n r (take (p .count) (a .fields)) (take (p .placed) (a .forward)) (a .reverse) (p .groups) j (top-of .start) (pend others) irr
-            (subst (λ b. Todo n r (take (p .count) (a .fields)) (take (p .placed) (a .forward)) (a .reverse) (p .groups) (record { block = b; start = top-of .start } ∷ pend others)) one todo-here)))));
+            (subst (λ b. Todo n r (take (p .count) (a .fields)) (take (p .placed) (a .forward)) (a .reverse) (p .groups)
+            (record { block = b; start = top-of .start } ∷ pend others)) one todo-here)))));
       }
 
   pub leaf-turn : (j : ℕ) → members (top-of .set) ≡ j ∷ [] → r j j ≡ false → (q : Progress) → q .height + 1 ≡ p .height → q .count ≡ p .count + 1
@@ -219,7 +224,8 @@ module _ (n : ℕ) (few : n ≤ 128) (r tied free : Rel) (a : Arrays) (p : Progr
           every =
               subst (Every n tied free) (sym es)
               (every-append n tied free (spreadOut (top-of .series) (top-of .start) size parts) others
-              (splits-every n tied free under (top-of .series) (top-of .start) size (top-ok .0 .fits) parts (top-of .set) (top-ok .0 .small) few split (omega (arith, jobs-same)))
+              (splits-every n tied free under (top-of .series) (top-of .start) size (top-ok .0 .fits) parts (top-of .set) (top-ok .0 .small) few split
+              (omega (arith, jobs-same)))
               (top-ok .1));
           whole =
               omega (
@@ -236,21 +242,25 @@ module _ (n : ℕ) (few : n ≤ 128) (r tied free : Rel) (a : Arrays) (p : Progr
           forward-blank = ap (λ k. drop k (a .forward)) qp ∙ x .forward-blank ∙ ap (λ k. replicate (128 - k) 0) (sym qp);
           reverse-blank = x .reverse-blank;
           todo =
-              subst (λ l. Todo n r (take (q .count) (set (a .fields) (p .count) field)) (take (q .placed) (a .forward)) (a .reverse) (q .groups) (pend l)) (sym es)
+              subst (λ l. Todo n r (take (q .count) (set (a .fields) (p .count) field)) (take (q .placed) (a .forward)) (a .reverse) (q .groups) (pend l))
+              (sym es)
               (subst (λ l. Todo n r (take (q .count) (set (a .fields) (p .count) field)) (take (q .placed) (a .forward)) (a .reverse) (q .groups) l)
               (sym
               (pend-append (spreadOut (top-of .series) (top-of .start) size parts) others
               ∙ ap (λ l. l ++ pend others) (pend-spread (top-of .series) (top-of .start) size parts jobs-same)))
               (turn (sym (qg ∙ add-one (p .groups)))
-              (λ k. Todo n r (take (q .count) (set (a .fields) (p .count) field)) (take (q .placed) (a .forward)) (a .reverse) k (spread (kindOf (top-of .series)) (top-of .start) (map members parts) ++ pend others))
+              (λ k. Todo n r (take (q .count) (set (a .fields) (p .count) field)) (take (q .placed) (a .forward)) (a .reverse) k
+              (spread (kindOf (top-of .series)) (top-of .start) (map members parts) ++ pend others))
               (turn (sym qp)
-              (λ k. Todo n r (take (q .count) (set (a .fields) (p .count) field)) (take k (a .forward)) (a .reverse) (suc (p .groups)) (spread (kindOf (top-of .series)) (top-of .start) (map members parts) ++ pend others))
+              (λ k. Todo n r (take (q .count) (set (a .fields) (p .count) field)) (take k (a .forward)) (a .reverse) (suc (p .groups))
+              (spread (kindOf (top-of .series)) (top-of .start) (map members parts) ++ pend others))
               (turn
               (sym
               (ap (λ k. take k (set (a .fields) (p .count) field)) qc
               ∙ stored (a .fields) (p .count) field (omega (arith, rm .1, x .fields-size))
               ∙ ap (λ k. take (p .count) (a .fields) ++ (k ∷ [])) (field-token (top-of .series) (length parts - 1))))
-              (λ l. Todo n r l (take (p .placed) (a .forward)) (a .reverse) (suc (p .groups)) (spread (kindOf (top-of .series)) (top-of .start) (map members parts) ++ pend others))
+              (λ l. Todo n r l (take (p .placed) (a .forward)) (a .reverse) (suc (p .groups))
+              (spread (kindOf (top-of .series)) (top-of .start) (map members parts) ++ pend others))
               (todo-parts parts two group-here)))));
         }
 
@@ -279,7 +289,8 @@ module _ (n : ℕ) (few : n ≤ 128) (r tied free : Rel) (a : Arrays) (p : Progr
   group-cut under strict turned alike {parts = parts} {count = count} cut two stack starts kinds q z whole all es qh qc qg qp fields ef =
       let long : length (take count parts) ≡ count = cut-count cut (omega (arith, top-ok .0 .fits)) in
       group-turn under strict turned alike (take count parts) (cut .these) (omega (arith, long)) stack starts kinds q z
-      (ap (entries stack starts kinds) qh ∙ es ∙ ap (λ k. spreadOut (top-of .series) (top-of .start) k (take count parts) ++ others) all) (omega (arith, long)) qc qg qp fields
+      (ap (entries stack starts kinds) qh ∙ es ∙ ap (λ k. spreadOut (top-of .series) (top-of .start) k (take count parts) ++ others) all)
+      (omega (arith, long)) qc qg qp fields
       (ef ∙ ap (λ k. set (a .fields) (p .count) (groupField (top-of .series) (k - 1))) (sym long))
 
 -- all jobs on the stack: nothing is written

@@ -12,7 +12,8 @@ use lib.Seq.{sets, sets-eq, take-at}
 use Rattle.poset.specs.Lists.{below}
 use Rattle.poset.specs.Order.{Rel}
 use Rattle.poset.specs.Decompose.{Block}
-use Rattle.poset.specs.Tree.{Kind, series, parallel, Tree, leaf, node, Forest, last, more, leaves, forestLeaves, reversed, forestReversed, joined, groups, forestGroups}
+use Rattle.poset.specs.Tree.{Kind, series, parallel, Tree, leaf, node, Forest, last, more}
+use Rattle.poset.specs.Tree.{leaves, forestLeaves, reversed, forestReversed, joined, groups, forestGroups}
 use Rattle.poset.specs.Lists.{count}
 use Rattle.poset.proofs.Laws.{decided, clash, eqb-true, eqb-same, count-same, count-other, count-zero, count-mem, mem-count}
 use Rattle.poset.proofs.Shape.{in-leaves, leaves-in, good-once}

@@ -5,6 +5,7 @@ use mathlib.Core.List.{List, [], _∷_, _++_}
 use mathlib.Core.Bool.{true, false}
 use mathlib.Core.Option.{Option, none, some}
 use lib.ListN.{length, take, replicate}
+use Rattle.poset.specs.Areas.{padded}
 use Rattle.poset.specs.Tree as Tree
 use Rattle.poset.specs.Tree.{Kind, leaf, node, Forest, last, more, leaves, reversed, groups}
 use Rattle.record.specs.Layout.{kindBit, moreChildren}
@@ -21,10 +22,6 @@ abbrev mutual
   pub forestTokens : Forest → List ℕ
   forestTokens (last t) = tokens t
   forestTokens (more t f) = tokens t ++ forestTokens f
-
--- a list of 128, zeros after its entries
-abbrev pub padded : List ℕ → List ℕ
-padded xs = xs ++ replicate (128 - length xs) 0
 
 -- what is found of a tree: its fields, groups and sequences
 pub record Found (t : Tree.Tree) (r : Shape) : Type 0 where

@@ -6,7 +6,7 @@ use mathlib.Core.Option.{Option, none, some}
 use lib.ListN.{length, take}
 use Rattle.poset.specs.Tree.{Tree, leaves, reversed, groups}
 use Rattle.record.specs.Layout.{layout}
-use Rattle.writer.specs.Tokens.{padded}
+use Rattle.poset.specs.Areas.{padded}
 use Rattle.writer.specs.declared.writing.Written.{Written}
 
 -- the record of a tree on n jobs, its groups and its sequences

@@ -30,8 +30,10 @@ returns c =
 
 returns-2 : tie.Need-returns-2
 returns-2 c =
-    let s = c .before .before .before .before in
-    ((λ bs h. holds-more bs (s .args .bytes .now) (s .args .p) (c .before .if1 .left) h), (omega arith, omega (arith, s .pre .few), more-small (s .args .p .have) (s .args .p .value) (s .pre .small)))
+    let s = c .before .before .before .before in (
+      (λ bs h. holds-more bs (s .args .bytes .now) (s .args .p) (c .before .if1 .left) h),
+      (omega arith, omega (arith, s .pre .few), more-small (s .args .p .have) (s .args .p .value) (s .pre .small)),
+    )
 
 pub put-one-spec : {M : Type 1} → statement M
 put-one-spec =

@@ -56,7 +56,8 @@ unfolding holds
 loop-again c =
     let l = c .before .before .before .before in
     let s = l .before in
-    filled-next (either (s .args .after .now) (s .args .under .now)) (l .loop .r) (l .loop .u) (c .union .result) (omega arith) (c .union .ensures) (l .loop .inv)
+    filled-next (either (s .args .after .now) (s .args .under .now)) (l .loop .r) (l .loop .u) (c .union .result) (omega arith)
+    (c .union .ensures) (l .loop .inv)
 
 returns : tie.Need-returns Inv-loop μ-loop
 returns c = λ u v l. c .before .loop .inv .rows u v (omega arith)

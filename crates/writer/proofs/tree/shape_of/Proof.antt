@@ -69,7 +69,9 @@ array-write-kinds c = omega arith
 loop-holds : tie.Need-loop-holds Inv-loop μ-loop
 loop-holds c =
     let s = c .before .before .before .before .before .before .before .before in
-    let t = tables _ _ _ _ _ (s .pre .0 .1) (s .pre .1 .0) (s .pre .1 .1 .0) (s .pre .1 .1 .1) (c .before .before .before .before .before .before .before .comparable .ensures) (c .before .before .before .before .before .incomparable .ensures) in
+    let t = tables _ _ _ _ _ (s .pre .0 .1) (s .pre .1 .0) (s .pre .1 .1 .0) (s .pre .1 .1 .1)
+    (c .before .before .before .before .before .before .before .comparable .ensures)
+    (c .before .before .before .before .before .incomparable .ensures) in
     let all = c .before .before .before .before .all-below .ensures in (
       t,
       c .split-as .ensures .size,
@@ -122,8 +124,13 @@ put-leaf-requires : tie.Need-put-leaf-requires Inv-loop μ-loop
 put-leaf-requires c κs =
     let l = c .before .before .before .before .before .before .before .before .before .before .loop in
     let ok = top-ok _ (l .inv .0 .few) _ _ _ _ _ (l .inv .2) (l .p .height - 1) (omega arith) .0 in
-    let rm = room _ (l .inv .0 .few) _ _ _ _ _ (l .inv .2) (l .p .height - 1) (omega arith) in
-    (c .smallest .ensures .small, omega (arith, ok .fits, ok .some, l .inv .0 .few), omega (arith, rm .1), omega (arith, rm .2, l .inv .0 .few), c .before .before .before .before .before .before .before .before .if1 .taken)
+    let rm = room _ (l .inv .0 .few) _ _ _ _ _ (l .inv .2) (l .p .height - 1) (omega arith) in (
+      c .smallest .ensures .small,
+      omega (arith, ok .fits, ok .some, l .inv .0 .few),
+      omega (arith, rm .1),
+      omega (arith, rm .2, l .inv .0 .few),
+      c .before .before .before .before .before .before .before .before .if1 .taken,
+    )
 
 -- src/tree.rt:238:5
 loop-less : tie.Need-loop-less Inv-loop μ-loop
@@ -172,7 +179,9 @@ returns c =
     let ok = top-ok _ (t .few) _ _ _ _ _ (l .inv .2) (l .p .height - 1) (omega arith) .0 in
     let cut = c .before .before .split-as2 .ensures in
     let joined = cut-joined cut (omega (arith, ok .fits, t .few)) (c .before .if3 .taken) (ok .some) in
-    let none = no-tree _ _ (t .strict) (stuck _ (t .few) _ _ _ _ (t .strict) (t .turned) (t .tied-is) (t .free-is) _ ok (λ e. c .before .before .before .before .before .before .if2 .left (c .before .before .before .before .before .before .before .size .ensures .0 ∙ e)) joined) in
+    let test = c .before .before .before .before .before .before in
+    let none = no-tree _ _ (t .strict) (stuck _ (t .few) _ _ _ _ (t .strict) (t .turned) (t .tied-is) (t .free-is) _ ok
+    (λ e. test .if2 .left (test .before .size .ensures .0 ∙ e)) joined) in
     subst (λ o. ShapeOf o (c .no-shape .result)) (sym none) (c .no-shape .ensures)
 
 -- src/tree.rt:262:17
@@ -206,28 +215,37 @@ put-group-requires c κs =
     let l = c .before .before .before .before .before .before .before .before .before .before .before .before .before .before .before .before .before .loop in
     let t = l .inv .0 in
     let rm = room _ (t .few) _ _ _ _ _ (l .inv .2) (l .p .height - 1) (omega arith) in
-    let cut = c .before .before .before .before .before .before .before .split-as2 .ensures in
-    (omega (arith, c .before .before .before .before .before .before .if3 .left), omega (arith, cut .few, rm .0, t .few), omega (arith, rm .1), omega (arith, rm .3))
+    let cut = c .before .before .before .before .before .before .before .split-as2 .ensures in (
+      omega (arith, c .before .before .before .before .before .before .if3 .left),
+      omega (arith, cut .few, rm .0, t .few),
+      omega (arith, rm .1),
+      omega (arith, rm .3),
+    )
 
 -- src/tree.rt:238:5
 loop-less-2 : tie.Need-loop-less-2 Inv-loop μ-loop
 loop-less-2 c =
-    let l = c .before .before .before .before .before .before .before .before .before .before .before .before .before .before .before .before .before .before .loop in
+    let body = c .before .before .before .before .before .before .before .before .before in
+    let l = body .before .before .before .before .before .before .before .before .before .loop in
     let rm = room _ (l .inv .0 .few) _ _ _ _ _ (l .inv .2) (l .p .height - 1) (omega arith) in
     omega (arith, rm .1, c .put-group .ensures .0 .1)
 
 -- src/tree.rt:238:5
 loop-again-2 : tie.Need-loop-again-2 Inv-loop μ-loop
 loop-again-2 c =
-    let l = c .before .before .before .before .before .before .before .before .before .before .before .before .before .before .before .before .before .before .loop in
+    let body = c .before .before .before .before .before .before .before .before .before in
+    let l = body .before .before .before .before .before .before .before .before .before .loop in
     let t = l .inv .0 in
     let cut = c .before .before .before .before .before .before .before .before .split-as2 .ensures in
     let push = c .before .before .push .ensures in
     let e = c .put-group .ensures in (
       t,
       cut .size,
-      group-cut _ (t .few) _ _ _ _ _ (l .inv .2) (l .p .height - 1) (omega (arith, c .before .before .before .before .before .before .before .before .before .before .before .before .before .before .before .before .if1 .taken)) _ (t .strict) (t .turned)
-          (alike _ (t .few) _ _ _ _ (t .strict) (t .turned) (t .tied-is) (t .free-is) (getD (l .kinds) (l .p .height - 1) false)) cut (c .before .before .before .before .before .before .before .if3 .left) _ _ _ _ (push .1 .0) _ (c .before .before .before .before .before .before .before .before .before .before .before .before .before .size .ensures .0) (push .1 .1) (e .0 .0 ∙ push .0)
+      group-cut _ (t .few) _ _ _ _ _ (l .inv .2) (l .p .height - 1)
+          (omega (arith, body .before .before .before .before .before .before .before .if1 .taken)) _ (t .strict) (t .turned)
+          (alike _ (t .few) _ _ _ _ (t .strict) (t .turned) (t .tied-is) (t .free-is) (getD (l .kinds) (l .p .height - 1) false))
+          cut (c .before .before .before .before .before .before .before .if3 .left) _ _ _ _ (push .1 .0) _
+          (body .before .before .before .before .size .ensures .0) (push .1 .1) (e .0 .0 ∙ push .0)
           (e .0 .1) (e .0 .2) (e .0 .3) _ (e .1),
     )
 

@@ -27,28 +27,34 @@ returns : tie.Need-returns
 returns c =
     let a = c .before .before .before .before .args in
     let shape = c .before .before .before .shape-of in
-    unfound (a .n) (treeOf (a .n) (holds (a .after .now))) (shape .result) (c .unwritten .result) (shape .ensures) (not-true (shape .result .ok) (c .before .if1 .taken)) (c .unwritten .ensures)
+    unfound (a .n) (treeOf (a .n) (holds (a .after .now))) (shape .result) (c .unwritten .result) (shape .ensures)
+    (not-true (shape .result .ok) (c .before .if1 .taken)) (c .unwritten .ensures)
 
 -- src/writing.rt:48:32
 array-share-prefix-fields : tie.Need-array-share-prefix-fields
 array-share-prefix-fields c =
-    let (t, e, f) = found (treeOf (c .before .before .before .before .args .n) (holds (c .before .before .before .before .args .after .now))) (c .before .before .before .shape-of .result) (c .before .before .before .shape-of .ensures)
-    (doubled (c .before .before .before .shape-of .result .ok) (c .before .if1 .left)) in
+    let a = c .before .before .before .before .args in
+    let shape = c .before .before .before .shape-of in
+    let (t, e, f) = found (treeOf (a .n) (holds (a .after .now))) (shape .result) (shape .ensures)
+    (doubled (shape .result .ok) (c .before .if1 .left)) in
     omega (arith, f .fits)
 
 -- src/writing.rt:48:32
 slice-aggregate-pack : tie.Need-slice-aggregate-pack
 slice-aggregate-pack c =
-    let (t, e, f) = found (treeOf (c .before .before .before .before .before .args .n) (holds (c .before .before .before .before .before .args .after .now))) (c .before .before .before .before .shape-of .result) (c .before .before .before .before .shape-of .ensures)
-    (doubled (c .before .before .before .before .shape-of .result .ok) (c .before .before .if1 .left)) in
+    let a = c .before .before .before .before .before .args in
+    let shape = c .before .before .before .before .shape-of in
+    let (t, e, f) = found (treeOf (a .n) (holds (a .after .now))) (shape .result) (shape .ensures)
+    (doubled (shape .result .ok) (c .before .before .if1 .left)) in
     sym (length-take-le _ _ (omega (arith, f .fits, f .size)))
 
 -- src/writing.rt:48:9
 pack-requires : tie.Need-pack-requires
 pack-requires c κs =
     let s = c .before .before .before .before .before in
-    let (t, e, f) = found (treeOf (c .before .before .before .before .before .args .n) (holds (c .before .before .before .before .before .args .after .now))) (c .before .before .before .before .shape-of .result) (c .before .before .before .before .shape-of .ensures)
-    (doubled (c .before .before .before .before .shape-of .result .ok) (c .before .before .if1 .left)) in
+    let shape = c .before .before .before .before .shape-of in
+    let (t, e, f) = found (treeOf (s .args .n) (holds (s .args .after .now))) (shape .result) (shape .ensures)
+    (doubled (shape .result .ok) (c .before .before .if1 .left)) in
     let p = spells _ (s .pre .0 .1) _ (s .pre .1 .0) t e _ (f .spelt) in
     (s .pre .0, (p .low, p .room))
 
@@ -56,10 +62,12 @@ pack-requires c κs =
 returns-2 : tie.Need-returns-2
 returns-2 c =
     let s = c .before .before .before .before .before .before .before .before .before in
-    let (t, e, f) = found (treeOf (c .before .before .before .before .before .before .before .before .before .args .n) (holds (c .before .before .before .before .before .before .before .before .before .args .after .now))) (c .before .before .before .before .before .before .before .before .shape-of .result) (c .before .before .before .before .before .before .before .before .shape-of .ensures)
-    (doubled (c .before .before .before .before .before .before .before .before .shape-of .result .ok) (c .before .before .before .before .before .before .if1 .left)) in
+    let shape = c .before .before .before .before .before .before .before .before .shape-of in
+    let (t, e, f) = found (treeOf (s .args .n) (holds (s .args .after .now))) (shape .result) (shape .ensures)
+    (doubled (shape .result .ok) (c .before .before .before .before .before .before .if1 .left)) in
     let p = spells _ (s .pre .0 .1) _ (s .pre .1 .0) t e _ (f .spelt) in
-    wrote (s .args .n) (treeOf (s .args .n) (holds (s .args .after .now))) t (c .before .before .before .before .before .before .before .before .shape-of .result) _ _ _ e f p (c .before .before .before .pack .ensures)
+    wrote (s .args .n) (treeOf (s .args .n) (holds (s .args .after .now))) t (shape .result) _ _ _ e f p
+    (c .before .before .before .pack .ensures)
 
 pub write-record-spec : {M : Type 1} → statement M
 write-record-spec =
