@@ -109,8 +109,8 @@ static void race_reduce(const char *name) {
         if (r < best_r) best_r = r;
         if (c < best_c) best_c = c;
     }
-    int differ = my_count != their_count || memcmp(mine, theirs, 8192);
-    printf("%-34s rattle %8.0f ns   C %8.0f ns   ratio %.2f   (%zu arcs left)%s\n", name, best_r, best_c, best_r / best_c, my_count, differ ? "   DIFFER" : "");
+    const char *differ = my_count != their_count || memcmp(mine, theirs, 8192) ? "   DIFFER" : "";
+    printf("%-34s rattle %8.0f ns   C %8.0f ns   ratio %.2f   (%zu arcs left)%s\n", name, best_r, best_c, best_r / best_c, my_count, differ);
 }
 
 typedef uint64_t searcher(const uint16_t *, size_t, uint16_t);
@@ -131,7 +131,8 @@ static void race_first_n(const char *name, int n) {
         if (r < best_r) best_r = r;
         if (c < best_c) best_c = c;
     }
-    printf("%-34s rattle %8.0f ns   C %8.0f ns   ratio %.2f   (N %08lx)%s\n", name, best_r, best_c, best_r / best_c, (unsigned long)mine, mine != theirs ? "   DIFFER" : "");
+    const char *differ = mine != theirs ? "   DIFFER" : "";
+    printf("%-34s rattle %8.0f ns   C %8.0f ns   ratio %.2f   (N %08lx)%s\n", name, best_r, best_c, best_r / best_c, (unsigned long)mine, differ);
 }
 
 // what both sides refuse: too many jobs, an arc outside, a cycle, an area too small

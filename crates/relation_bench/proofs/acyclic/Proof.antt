@@ -20,13 +20,11 @@ enum-told-2 c = search needs
 
 returns : tie.Need-returns
 unfolding acyclic nothing
-returns c =
-    ap nothing (sym (ap found (c .enum-told .given .1)) ∙ c .before .before .first-on-cycle .ensures)
+returns c = ap nothing (sym (ap found (c .enum-told .given .1)) ∙ c .before .before .first-on-cycle .ensures)
 
 returns-2 : tie.Need-returns-2
 unfolding acyclic nothing
-returns-2 c =
-    ap nothing (sym (ap found (c .enum-told2 .given .1)) ∙ c .before .before .first-on-cycle .ensures)
+returns-2 c = ap nothing (sym (ap found (c .enum-told2 .given .1)) ∙ c .before .before .first-on-cycle .ensures)
 
 pub acyclic-spec : {M : Type 1} → statement M
 acyclic-spec = tie.close (tie.spec first-on-cycle-requires enum-told enum-told-2 returns returns-2)

@@ -3,14 +3,13 @@ use Prim.Native.Nat.{ℕ, _≤_}
 use mathlib.Core.Path.{_≡_, sym, ap, _∙_}
 use mathlib.Core.List.{List}
 use mathlib.Core.Bool.{true}
-use borrow.Author.Tests.{not-false}
-use Rattle.poset.proofs.Laws.{not-true}
-use Rattle.relation.specs.Arcs.{pairs}
-use Rattle.poset.specs.Order.{Arc, firstN}
-use Rattle.relation.specs.Arcs.{foundFour}
-use Rattle.relation_bench.specs.Steps.{fits, packed}
-use Rattle.relation_bench.proofs.Refusals.{fits-within, packed-unfit, packed-fit}
 use borrow.Author.Needs.{needs}
+use borrow.Author.Tests.{not-false}
+use Rattle.poset.specs.Order.{Arc, firstN}
+use Rattle.poset.proofs.Laws.{not-true}
+use Rattle.relation.specs.Arcs.{pairs, foundFour}
+use Rattle.relation_bench.specs.Steps.{fits, packed, packedN}
+use Rattle.relation_bench.proofs.Refusals.{fits-within, packed-unfit, packed-fit}
 use Rattle.relation_bench.proofs.bench_first_n.Statement.{statement}
 use Rattle.relation_bench.proofs.bench_first_n.Tie as tie
 use Rattle.relation_bench.proofs.bench_first_n.Reads as reads
@@ -37,20 +36,29 @@ module _ (c : tie.Else1) where
   small : n ≤ 128
   small = fits-within n given fit .0
 
+-- the search is done
+module _ (c : tie.After-first-n) where
+  abbrev closure : tie.After-closed
+  closure = c .before .before .before .before
+
+  packed-found : packed (foundFour (c .first-n .result)) ≡ packedN (n (closure .before)) (given (closure .before))
+  packed-found =
+      let w = closure .before in
+      ap packed (c .first-n .ensures ∙ ap (firstN (n w)) (closure .closed .ensures .0)) ∙ packed-fit (n w) (given w) (fit w)
+
 fits-requires : tie.Need-fits-requires
 fits-requires c κs = search needs
 
 returns : tie.Need-returns
 returns c =
-    let s = c .before .before .before in packed-unfit (s .args .n) (pairs (s .args .arcs .now)) (sym (c .before .fits2 .ensures) ∙ not-true _ (c .if1 .taken))
+    let a = c .before .before .before .args in
+    packed-unfit (a .n) (pairs (a .arcs .now)) (sym (c .before .fits2 .ensures) ∙ not-true _ (c .if1 .taken))
 
 closed-requires : tie.Need-closed-requires
-closed-requires c κs =
-    fits-within (n c) (given c) (fit c)
+closed-requires c κs = fits-within (n c) (given c) (fit c)
 
 transposed-requires : tie.Need-transposed-requires
-transposed-requires c κs =
-    (small (c .before), c .closed .ensures .1)
+transposed-requires c κs = (small (c .before), c .closed .ensures .1)
 
 first-n-requires : tie.Need-first-n-requires
 first-n-requires c κs =
@@ -82,19 +90,11 @@ enum-told c = search needs
 
 returns-2 : tie.Need-returns-2
 unfolding packed
-returns-2 c =
-    let p = c .before .before .before in
-    let e = p .before .before .before .before in
-    ap packed (sym (ap foundFour (c .before .found .given .1)) ∙ p .first-n .ensures ∙ ap (firstN (n (e .before))) (e .closed .ensures .0))
-    ∙ packed-fit (n (e .before)) (given (e .before)) (fit (e .before))
+returns-2 c = ap (λ q. packed (foundFour q)) (sym (c .before .found .given .1)) ∙ packed-found (c .before .before .before)
 
 returns-3 : tie.Need-returns-3
 unfolding packed
-returns-3 c =
-    let p = c .before .before in
-    let e = p .before .before .before .before in
-    ap packed (sym (ap foundFour (c .enum-told .given .1)) ∙ p .first-n .ensures ∙ ap (firstN (n (e .before))) (e .closed .ensures .0))
-    ∙ packed-fit (n (e .before)) (given (e .before)) (fit (e .before))
+returns-3 c = ap (λ q. packed (foundFour q)) (sym (c .enum-told .given .1)) ∙ packed-found (c .before .before)
 
 pub bench-first-n-spec : {M : Type 1} → statement M
 bench-first-n-spec =

@@ -1,7 +1,7 @@
 -- `relation_bench::fits` meets its contract.
 use mathlib.Core.Path.{sym, ap, _∙_}
-use lib.Dec.{leb}
 use mathlib.Core.Bool.{_&&_}
+use lib.Dec.{leb}
 use Rattle.relation.specs.Arcs.{found}
 use Rattle.relation_bench.specs.Steps.{nothing, fits}
 use borrow.Author.Needs.{needs}
