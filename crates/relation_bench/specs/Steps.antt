@@ -8,6 +8,7 @@ use lib.ListN.{length}
 use Rattle.poset.specs.Order.{Arc, Rel, Four, before, firstOnCycle, reduction, firstN}
 use Rattle.relation.specs.Arcs.{place, outside}
 
+-- a search has found nothing
 unfoldable pub nothing : Option ℕ → Bool
 nothing none = true
 nothing (some i) = false
