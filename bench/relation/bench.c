@@ -5,9 +5,8 @@
 #include <string.h>
 #include <time.h>
 
-void bench_reduce(const uint16_t *arcs, size_t numbers, size_t n, uint8_t *area, size_t room);
-uint64_t bench_order(const uint16_t *arcs, size_t numbers, size_t n);
-uint64_t bench_first_n(const uint16_t *arcs, size_t numbers, size_t n);
+size_t bench_reduce(const uint16_t *arcs, size_t numbers, uint16_t n, uint8_t *area, size_t room);
+uint64_t bench_first_n(const uint16_t *arcs, size_t numbers, uint16_t n);
 
 typedef struct { uint64_t w[2]; } set;
 static inline void put(set *s, int i) { s->w[i >> 6] |= 1ull << (i & 63); }
@@ -19,6 +18,11 @@ static inline int none(set a) { return !(a.w[0] | a.w[1]); }
 static inline int low(set a) { return a.w[0] ? __builtin_ctzll(a.w[0]) : 64 + __builtin_ctzll(a.w[1]); }
 #define EACH(j, s) for (int q_##j = 0, j; q_##j < 2; q_##j++) for (uint64_t x_##j = (s).w[q_##j]; x_##j && (j = 64 * q_##j + __builtin_ctzll(x_##j), 1); x_##j &= x_##j - 1)
 
+// at most 128 jobs, and the arcs name them alone
+static int fits(const uint16_t *arcs, size_t numbers, int n) {
+    for (size_t i = 0; i + 1 < numbers; i += 2) if (arcs[i] >= n || arcs[i + 1] >= n) return 0;
+    return n <= 128;
+}
 static void closed(const uint16_t *arcs, size_t numbers, int n, set after[128]) {
     memset(after, 0, 128 * sizeof(set));
     for (size_t i = 0; i + 1 < numbers; i += 2) put(&after[arcs[i]], arcs[i + 1]);
@@ -30,16 +34,21 @@ static void closed(const uint16_t *arcs, size_t numbers, int n, set after[128]) 
         }
     }
 }
-__attribute__((noinline)) static void c_reduce(const uint16_t *arcs, size_t numbers, size_t n, uint8_t *area, size_t room) {
-    set after[128];
+__attribute__((noinline)) static size_t c_reduce(const uint16_t *arcs, size_t numbers, uint16_t n, uint8_t *area, size_t room) {
+    set after[128], covers[128];
+    size_t count = 0, k = 0;
+    if (!fits(arcs, numbers, n)) return 0;
     closed(arcs, numbers, n, after);
-    size_t k = 0;
-    for (int i = 0; i < (int)n; i++) {
+    for (int i = 0; i < n; i++) if (after[i].w[i >> 6] >> (i & 63) & 1) return 0;
+    for (int i = 0; i < n; i++) {
         set far = {{0, 0}};
         for (set s = after[i]; !none(s); s = but(s, far)) { int j = low(s); drop(&s, j); far = or_(far, after[j]); }
-        set only = but(after[i], far);
-        EACH(j, only) { area[k++] = i; area[k++] = j; }
+        covers[i] = but(after[i], far);
+        count += __builtin_popcountll(covers[i].w[0]) + __builtin_popcountll(covers[i].w[1]);
     }
+    if (room / 2 < count) return 0;
+    for (int i = 0; i < n; i++) EACH(j, covers[i]) { area[k++] = i; area[k++] = j; }
+    return count;
 }
 
 // Hacker's Delight, 7-3: a 64 by 64 bit matrix turned in place
@@ -59,18 +68,13 @@ static void turn(set *to, const set *from, int n) {
         for (int i = 0; i < 64; i++) to[64 * c + i].w[r] = m[i];
     }
 }
-__attribute__((noinline)) static uint64_t c_order(const uint16_t *arcs, size_t numbers, size_t n) {
-    set after[128], under[128];
-    closed(arcs, numbers, n, after);
-    turn(under, after, n);
-    return under[127].w[0];
-}
-__attribute__((noinline)) static uint64_t c_first_n(const uint16_t *arcs, size_t numbers, size_t n) {
+__attribute__((noinline)) static uint64_t c_first_n(const uint16_t *arcs, size_t numbers, uint16_t n) {
     set after[128], under[128], all = {{0, 0}};
+    if (!fits(arcs, numbers, n)) return 1ull << 32;
     closed(arcs, numbers, n, after);
     turn(under, after, n);
-    for (int i = 0; i < (int)n; i++) put(&all, i);
-    for (int x = 0; x < (int)n; x++) {
+    for (int i = 0; i < n; i++) put(&all, i);
+    for (int x = 0; x < n; x++) {
         set ys = but(but(all, after[x]), under[x]);
         EACH(y, ys) {
             if (y == x) continue;
@@ -91,46 +95,52 @@ static uint16_t arcs[8192]; static size_t numbers;
 static void arc(int u, int v) { if (numbers < 8192) { arcs[numbers++] = u; arcs[numbers++] = v; } }
 
 static double now(void) { struct timespec t; clock_gettime(CLOCK_MONOTONIC, &t); return t.tv_sec * 1e9 + t.tv_nsec; }
-typedef void reducer(const uint16_t *, size_t, size_t, uint8_t *, size_t);
-static uint8_t mine[8192], theirs[8192];
-static double reduce_time(reducer *f, uint8_t *area, int rounds) {
+typedef size_t reducer(const uint16_t *, size_t, uint16_t, uint8_t *, size_t);
+static uint8_t mine[8192], theirs[8192]; static size_t my_count, their_count;
+static double reduce_time(reducer *f, uint8_t *area, size_t *count, int rounds) {
     double s = now();
-    for (int i = 0; i < rounds; i++) { f(arcs, numbers, 128, area, 8192); __asm__ volatile("" ::: "memory"); }
+    for (int i = 0; i < rounds; i++) { *count = f(arcs, numbers, 128, area, 8192); __asm__ volatile("" ::: "memory"); }
     return (now() - s) / rounds;
 }
 static void race_reduce(const char *name) {
     double best_r = 1e18, best_c = 1e18;
     for (int turn = 0; turn < 1000; turn++) {
-        double r = reduce_time(bench_reduce, mine, 5), c = reduce_time(c_reduce, theirs, 5);
+        double r = reduce_time(bench_reduce, mine, &my_count, 5), c = reduce_time(c_reduce, theirs, &their_count, 5);
         if (r < best_r) best_r = r;
         if (c < best_c) best_c = c;
     }
-    printf("%-34s rattle %8.0f ns   C %8.0f ns   ratio %.2f%s\n", name, best_r, best_c, best_r / best_c, memcmp(mine, theirs, 8192) ? "   DIFFER" : "");
+    const char *differ = my_count != their_count || memcmp(mine, theirs, 8192) ? "   DIFFER" : "";
+    printf("%-34s rattle %8.0f ns   C %8.0f ns   ratio %.2f   (%zu arcs left)%s\n", name, best_r, best_c, best_r / best_c, my_count, differ);
 }
 
-typedef uint64_t searcher(const uint16_t *, size_t, size_t);
+typedef uint64_t searcher(const uint16_t *, size_t, uint16_t);
 static uint64_t answer;
 static double search_time(searcher *f, int n, int rounds) {
     double s = now();
     for (int i = 0; i < rounds; i++) { answer = f(arcs, numbers, n); __asm__ volatile("" ::: "memory"); }
     return (now() - s) / rounds;
 }
-// the whole, and what is left of it once closure and transposed table are taken off
 static void race_first_n(const char *name, int n) {
-    double r = 1e18, ro = 1e18, c = 1e18, co = 1e18; uint64_t mine = 0, theirs = 0;
+    double best_r = 1e18, best_c = 1e18; uint64_t mine = 0, theirs = 0;
     int rounds = n < 16 ? 1000 : 2;
     for (int turn = 0; turn < 1000; turn++) {
-        double t;
-        t = search_time(bench_order, n, rounds); if (t < ro) ro = t;
-        t = search_time(bench_first_n, n, rounds); if (t < r) r = t;
+        double r = search_time(bench_first_n, n, rounds);
         mine = answer;
-        t = search_time(c_order, n, rounds); if (t < co) co = t;
-        t = search_time(c_first_n, n, rounds); if (t < c) c = t;
+        double c = search_time(c_first_n, n, rounds);
         theirs = answer;
+        if (r < best_r) best_r = r;
+        if (c < best_c) best_c = c;
     }
-    printf("%-34s rattle %8.0f ns   C %8.0f ns   ratio %.2f%s\n", name, r, c, r / c, mine != theirs ? "   DIFFER" : "");
-    printf("  its closure and transposed table rattle %8.0f ns   C %8.0f ns   ratio %.2f\n", ro, co, ro / co);
-    printf("  its search alone                 rattle %8.0f ns   C %8.0f ns   ratio %.2f   (N %08lx)\n", r - ro, c - co, (r - ro) / (c - co), (unsigned long)mine);
+    const char *differ = mine != theirs ? "   DIFFER" : "";
+    printf("%-34s rattle %8.0f ns   C %8.0f ns   ratio %.2f   (N %08lx)%s\n", name, best_r, best_c, best_r / best_c, (unsigned long)mine, differ);
+}
+
+// what both sides refuse: too many jobs, an arc outside, a cycle, an area too small
+static void refused(const char *name, int n, size_t room) {
+    memset(mine, 7, sizeof mine); memset(theirs, 7, sizeof theirs);
+    size_t r = bench_reduce(arcs, numbers, n, mine, room), c = c_reduce(arcs, numbers, n, theirs, room);
+    uint64_t rn = bench_first_n(arcs, numbers, n), cn = c_first_n(arcs, numbers, n);
+    printf("%-34s %s\n", name, r || c || rn != cn || memcmp(mine, theirs, sizeof mine) || mine[0] != 7 ? "DIFFER" : "refused by both");
 }
 
 int main(void) {
@@ -147,4 +157,9 @@ int main(void) {
     numbers = 0;
     arc(0, 2); arc(1, 2); arc(1, 3);
     race_first_n("first N of five jobs", 5);
+    refused("129 jobs", 129, 8192);
+    refused("an arc outside", 3, 8192);
+    refused("an area too small", 5, 5);
+    arc(3, 1);
+    refused("a cycle", 5, 8192);
 }

@@ -1,15 +1,29 @@
-//! The steps of crate `relation`, called from C by bench/relation, whose inputs meet what is required here.
+//! The steps of crate `relation`, called from C by bench/relation. Arcs that do not fit are refused.
+use relation::Found;
 use relation::FoundFour;
 use relation::arcs;
 use relation::order;
 use relation::reduction;
 use relation::search;
-ghost use Prim.Native.Nat.{_*_, _≤_};
+ghost use Prim.Native.Nat.{_≤_};
 ghost use mathlib.Core.Path.{_≡_};
 ghost use lib.ListN.{length};
-ghost use Rattle.poset.specs.Order.{Within, Strict, before, reduction};
+ghost use Rattle.poset.specs.Order.{Within, before};
+ghost use Rattle.poset.specs.Areas.{overlay};
 ghost use Rattle.relation.specs.Table.{holds, Inside};
-ghost use Rattle.relation.specs.Arcs.{pairs};
+ghost use Rattle.relation.specs.Arcs.{pairs, arcBytes};
+ghost use Rattle.relation_bench.specs.Steps.{fits, acyclic, reducedArcs, packedN};
+
+// Whether there are at most 128 jobs and the arcs name them alone.
+fn fits(arcs: &[u16], n: u16) -> bool
+    ensures { λ r. ⌜ r ≡ fits n (pairs (now (arcs .entry))) ⌝ }
+{
+    let found = arcs::first_outside(arcs, n);
+    match found {
+        Found::At(_) => false,
+        Found::Nothing => n <= 128,
+    }
+}
 
 // The closure of the arcs.
 fn closed(arcs: &[u16], n: usize) -> [[u64; 2]; 128]
@@ -21,38 +35,54 @@ fn closed(arcs: &[u16], n: usize) -> [[u64; 2]; 128]
     order::closure(arcs::table_of(arcs), n)
 }
 
-// Closure and reduction: the reduced arcs as bytes in the area.
-#[no_mangle]
-pub extern "C" fn bench_reduce(arcs: &[u16], n: usize, area: &mut [u8])
+// Whether no job is before itself.
+fn acyclic(after: &[[u64; 2]; 128], n: usize) -> bool
     requires { ⌜ n ≤ 128 ⌝ }
-    requires { ⌜ Within n (pairs (now arcs)) ⌝ }
-    requires { ⌜ Strict n (before n (pairs (now arcs))) ⌝ }
-    requires { ⌜ 2 * length (reduction n (before n (pairs (now arcs)))) ≤ length (now area) ⌝ }
+    ensures { λ r. ⌜ r ≡ acyclic n (holds (now (after .entry))) ⌝ }
 {
-    let covers = reduction::reduced(closed(arcs, n), n);
-    reduction::write_pairs(&covers, n, area);
+    let found = order::first_on_cycle(after, n);
+    match found {
+        Found::At(_) => false,
+        Found::Nothing => true,
+    }
 }
 
-// Closure and its transposed table alone: a word of it.
+// Closure and reduction: the reduced arcs as bytes in the area, and how many there are.
 #[no_mangle]
-pub extern "C" fn bench_order(arcs: &[u16], n: usize) -> u64
-    requires { ⌜ n ≤ 128 ⌝ }
-    requires { ⌜ Within n (pairs (now arcs)) ⌝ }
+pub extern "C" fn bench_reduce(arcs: &[u16], n: u16, area: &mut [u8]) -> usize
+    ensures { λ r. ⌜ r ≡ length (reducedArcs (length (now (area .entry))) n (pairs (now (arcs .entry)))) ⌝ }
+    ensures { λ _. ⌜ now (area .exit)
+        ≡ overlay (arcBytes (reducedArcs (length (now (area .entry))) n (pairs (now (arcs .entry))))) (now (area .entry)) ⌝ }
 {
-    let after = closed(arcs, n);
-    let under = order::transposed(after, n);
-    under[127][0]
+    if !fits(arcs, n) {
+        return 0;
+    }
+    let jobs = n as usize;
+    let after = closed(arcs, jobs);
+    if !acyclic(&after, jobs) {
+        return 0;
+    }
+    let covers = reduction::reduced(after, jobs);
+    let count = reduction::pair_count(&covers, jobs);
+    if area.len() / 2 < count {
+        return 0;
+    }
+    reduction::write_pairs(&covers, jobs, area);
+    count
 }
 
 // The first N: its jobs, a byte each from the lowest, or 2^32 where there is none.
 #[no_mangle]
-pub extern "C" fn bench_first_n(arcs: &[u16], n: usize) -> u64
-    requires { ⌜ n ≤ 128 ⌝ }
-    requires { ⌜ Within n (pairs (now arcs)) ⌝ }
+pub extern "C" fn bench_first_n(arcs: &[u16], n: u16) -> u64
+    ensures { λ r. ⌜ r ≡ packedN n (pairs (now (arcs .entry))) ⌝ }
 {
-    let after = closed(arcs, n);
-    let under = order::transposed(after, n);
-    let found = search::first_n(&after, &under, n);
+    if !fits(arcs, n) {
+        return 0x1_0000_0000;
+    }
+    let jobs = n as usize;
+    let after = closed(arcs, jobs);
+    let under = order::transposed(after, jobs);
+    let found = search::first_n(&after, &under, jobs);
     match found {
         FoundFour::At(a, b, c, d) => {
             (a % 256 + 256 * (b % 256) + 65536 * (c % 256) + 16777216 * (d % 256)) as u64

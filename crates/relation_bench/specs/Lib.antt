@@ -1,0 +1,2 @@
+-- What the benchmark's functions compute.
+pub mod Steps
