@@ -11,3 +11,9 @@ pub mod Sheets
 pub mod Crossed
 pub mod Demands
 pub mod Cases
+pub mod Copying
+pub mod Crossing
+pub mod Taking
+pub mod Circles
+pub mod Steps
+pub mod SheetArcs

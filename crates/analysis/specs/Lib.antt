@@ -2,3 +2,4 @@
 pub mod Answer
 pub mod Outcome
 pub mod Sentences
+pub mod Result

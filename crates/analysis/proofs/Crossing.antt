@@ -1,0 +1,86 @@
+-- The refusal of an order with an N, and the outcome of an order taken apart.
+use Prim.Native.Nat.{ℕ, _*_, _≤_, _<_}
+use mathlib.Core.Path.{_≡_, refl, sym, ap, ap₂, subst, _∙_}
+use mathlib.Core.List.{List, [], flatMap}
+use mathlib.Core.Bool.{Bool, true, false}
+use mathlib.Core.Option.{Option, none, some}
+use mathlib.Core.Logic.{⊎-elim}
+use native.Mathlib.Omega.{arith}
+use lib.Dec.{ltb}
+use lib.ListN.{length, drop, replicate}
+use Rattle.poset.specs.Areas.{overlay, padded}
+use Rattle.poset.specs.Order.{Rel, Four, Strict, firstN, reduction}
+use Rattle.poset.specs.Tree.{Tree}
+use Rattle.poset.specs.Decompose.{treeOf}
+use Rattle.poset.proofs.Laws.{clash, lt-true, false-unless, ltb-true, found-or-none, found-clash}
+use Rattle.poset.proofs.Theorems.{tree-of-sound, tree-has-no-n, first-n-none}
+use Rattle.relation.specs.Arcs.{arcBytes, foundFour}
+use Rattle.relation.specs.declared.FoundFour.{FoundFour}
+use Rattle.relation.specs.declared.FoundFour.the-variants as four
+use Rattle.analysis.specs.Answer.{answer}
+use Rattle.analysis.specs.Outcome.{Rooms, Outcome, refuse, accept, arcsFit, fitted, decomposed, ordered}
+use Rattle.analysis.specs.Result.{answerOf, refusal, crossedBy, rooms, Gives}
+use Rattle.analysis.specs.declared.Verdict.{Verdict}
+use Rattle.analysis.specs.declared.Verdict.the-variants as verdict
+use Rattle.analysis.specs.declared.Analysis.{Analysis}
+
+pub gives-same : {o p : Outcome} {bytes area : List ℕ} {r : Analysis} {bytes′ area′ : List ℕ} → o ≡ p → Gives o bytes area r bytes′ area′
+    → Gives p bytes area r bytes′ area′
+gives-same {bytes = bytes} {area = area} {r = r} {bytes′ = bytes′} {area′ = area′} e g = subst (λ o. Gives o bytes area r bytes′ area′) e g
+
+-- a refusal leaves the areas
+pub gives-refusal : (v : Verdict) (o : Outcome) (bytes area : List ℕ) (k a b c d : ℕ) → o ≡ refuse k a b c d → answerOf v ≡ answer k a b c d
+    → Gives o bytes area (refusal v) bytes area
+unfolding refuse overlay arcBytes flatMap
+gives-refusal v o bytes area k a b c d e h =
+    record {
+      answers = h ∙ ap (λ (o : Outcome). o .verdict) (sym e);
+      record-is = ap (λ (o : Outcome). overlay (o .bytes) bytes) (sym e);
+      arcs-are = ap (λ (o : Outcome). overlay (arcBytes (o .arcs)) area) (sym e);
+      forward-is = ap (λ (o : Outcome). padded (o .forward)) (sym e);
+      reverse-is = ap (λ (o : Outcome). padded (o .reverse)) (sym e);
+    }
+
+-- the outcome, by what the search for an N and for a tree find
+
+abbrev afterN : Rooms → ℕ → Rel → Option Four → Option Tree → Outcome
+afterN rs n r (some q) o = refuse 8 (q .0) (q .1) (q .2) (q .3)
+afterN rs n r none (some t) = fitted rs (accept n r t)
+afterN rs n r none none = refuse 8 0 0 0 0
+
+decomposed-is : (rs : Rooms) (n : ℕ) (r : Rel) → decomposed rs n r ≡ afterN rs n r (firstN n r) (treeOf n r)
+unfolding decomposed
+decomposed-is rs n r = go (firstN n r) (treeOf n r)
+  where
+    go : (a : Option Four) (b : Option Tree)
+        → elim a [ some q ↦ refuse 8 (q .0) (q .1) (q .2) (q .3) | none ↦ elim b [ some t ↦ fitted rs (accept n r t) | none ↦ refuse 8 0 0 0 0 ] ]
+        ≡ afterN rs n r a b
+    go (some q) b = refl
+    go none (some t) = refl
+    go none none = refl
+
+by-n : (rs : Rooms) (n : ℕ) (r : Rel) (q : Four) → firstN n r ≡ some q → decomposed rs n r ≡ refuse 8 (q .0) (q .1) (q .2) (q .3)
+by-n rs n r q e = decomposed-is rs n r ∙ ap (λ a. afterN rs n r a (treeOf n r)) e
+
+by-none : (rs : Rooms) (n : ℕ) (r : Rel) → firstN n r ≡ none → treeOf n r ≡ none → decomposed rs n r ≡ refuse 8 0 0 0 0
+by-none rs n r e h = decomposed-is rs n r ∙ ap₂ (afterN rs n r) e h
+
+-- an order that no tree means
+pub gives-crossed : (rs : Rooms) (n : ℕ) (r : Rel) (bytes area : List ℕ) → treeOf n r ≡ none
+    → Gives (decomposed rs n r) bytes area (crossedBy (firstN n r)) bytes area
+unfolding decomposed
+gives-crossed rs n r bytes area bare = go (firstN n r) refl
+  where
+    go : (o : Option Four) → firstN n r ≡ o → Gives (decomposed rs n r) bytes area (crossedBy (firstN n r)) bytes area
+    go (some q) e =
+        subst (λ o. Gives (decomposed rs n r) bytes area (crossedBy o) bytes area) (sym e)
+        (gives-refusal (verdict.Crossed (q .0) (q .1) (q .2) (q .3)) (decomposed rs n r) bytes area 8 (q .0) (q .1) (q .2) (q .3) (by-n rs n r q e) refl)
+    go none e =
+        subst (λ o. Gives (decomposed rs n r) bytes area (crossedBy o) bytes area) (sym e)
+        (gives-refusal (verdict.Crossed 0 0 0 0) (decomposed rs n r) bytes area 8 0 0 0 0 (by-none rs n r e bare) refl)
+
+-- an order that a tree means
+pub tree-outcome : (rs : Rooms) (n : ℕ) (r : Rel) (t : Tree) → Strict n r → treeOf n r ≡ some t → decomposed rs n r ≡ fitted rs (accept n r t)
+tree-outcome rs n r t strict e =
+    decomposed-is rs n r
+    ∙ ap₂ (afterN rs n r) (first-n-none n r .1 (λ h. tree-has-no-n n r (t, tree-of-sound n r t strict e .0) h)) e

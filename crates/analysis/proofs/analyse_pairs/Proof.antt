@@ -1,0 +1,58 @@
+use borrow.Author.Needs.{needs}
+use mathlib.Core.Path.{sym, ap, subst, refl, _∙_}
+use native.Mathlib.Omega.{arith}
+use Rattle.relation.specs.Arcs.{pairs}
+use Rattle.analysis.specs.Result.{rooms, Gives}
+use Rattle.analysis.proofs.Crossing.{gives-same, gives-refusal}
+use Rattle.analysis.specs.Outcome.{pairOutcome}
+use Rattle.analysis.proofs.Steps.{pairs-odd, pairs-even, pairs-length}
+use Rattle.analysis.proofs.analyse_pairs.Statement.{statement}
+use Rattle.analysis.proofs.analyse_pairs.Tie as tie
+use Rattle.analysis.proofs.analyse_pairs.Reads as reads
+use Rattle.analysis.proofs.analyse_pairs.Lts as lts
+use Rattle.analysis.proofs.limits.of_count.Reads as of-count-reads
+use Rattle.analysis.proofs.refused.Reads as refused-reads
+
+-- src/lib.rt:69:9
+refused-requires : tie.Need-refused-requires
+refused-requires c κs = search needs
+
+-- src/lib.rt:69:9
+returns : tie.Need-returns
+returns c =
+    let s = c .before .before .before .before .before in
+    let b = s .args .bytes .now in
+    let ar = s .args .area .now in
+    let list = s .args .list .now in
+    let n = s .args .count in
+    subst (λ a. Gives (pairOutcome (rooms b ar) n list) b ar a b ar) (sym (c .refused .ensures))
+    (gives-refusal _ (pairOutcome (rooms b ar) n list) b ar 2 0 0 0 0 (pairs-odd (rooms b ar) n list (c .before .if1 .taken)) refl)
+
+-- src/lib.rt:71:5
+of-count-requires : tie.Need-of-count-requires
+of-count-requires c κs = search needs
+
+-- src/lib.rt:64:1
+same-length : tie.Need-same-length
+same-length c = search needs
+
+-- src/lib.rt:64:1
+same-length-2 : tie.Need-same-length-2
+same-length-2 c = search needs
+
+-- src/lib.rt:64:1
+returns-2 : tie.Need-returns-2
+returns-2 c =
+    let test = c .before .before .before .before .before .before .before .before .before in
+    let s = test .before .before in
+    let b = s .args .bytes .now in
+    let ar = s .args .area .now in
+    let list = s .args .list .now in
+    let n = s .args .count in
+    gives-same (sym (pairs-even (rooms b ar) n list (c .before .before .before .before .before .before .before .if1 .left)))
+    (c .before .before .before .before .of-count .ensures (pairs list) (pairs-length list) (λ few. refl))
+
+pub analyse-pairs-spec : {M : Type 1} → statement M
+analyse-pairs-spec =
+    tie.close
+    (tie.spec refused-requires returns of-count-requires same-length same-length-2 returns-2)

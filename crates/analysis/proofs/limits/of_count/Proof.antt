@@ -1,0 +1,100 @@
+use borrow.Author.Needs.{needs}
+use mathlib.Core.Path.{sym, ap, subst, refl, _∙_}
+use native.Mathlib.Omega.{arith}
+use Rattle.relation.specs.Arcs.{pairs}
+use Rattle.analysis.specs.Result.{rooms, Gives}
+use Rattle.analysis.proofs.Crossing.{gives-same, gives-refusal}
+use Rattle.analysis.specs.Outcome.{listed, arcOutcome}
+use Rattle.analysis.proofs.Steps.{some-jobs, count-none, count-above, count-many, count-listed}
+use Rattle.analysis.proofs.limits.of_count.Statement.{statement}
+use Rattle.analysis.proofs.limits.of_count.Tie as tie
+use Rattle.analysis.proofs.limits.of_count.Reads as reads
+use Rattle.analysis.proofs.limits.of_count.Lts as lts
+use Rattle.analysis.proofs.limits.of_list.Reads as of-list-reads
+use Rattle.analysis.proofs.refused.Reads as refused-reads
+
+-- src/limits.rt:51:9
+refused-requires : tie.Need-refused-requires
+refused-requires c κs = search needs
+
+-- src/limits.rt:51:9
+returns : tie.Need-returns
+returns c =
+    let s = c .before .before .before .before .before in
+    let b = s .args .bytes .now in
+    let ar = s .args .area .now in
+    λ arcs size all.
+    subst (λ a. Gives (arcOutcome (rooms b ar) (s .args .n) arcs) b ar a b ar) (sym (c .refused .ensures))
+    (gives-refusal _ (arcOutcome (rooms b ar) (s .args .n) arcs) b ar 3 0 0 0 0 (count-none (rooms b ar) (s .args .n) arcs (c .before .if1 .taken)) refl)
+
+-- src/limits.rt:54:9
+refused-requires-2 : tie.Need-refused-requires-2
+refused-requires-2 c κs = search needs
+
+-- src/limits.rt:54:9
+returns-2 : tie.Need-returns-2
+returns-2 c =
+    let s = c .before .before .before .before .before .before in
+    let b = s .args .bytes .now in
+    let ar = s .args .area .now in
+    λ arcs size all.
+    subst (λ a. Gives (arcOutcome (rooms b ar) (s .args .n) arcs) b ar a b ar) (sym (c .refused2 .ensures))
+    (gives-refusal _ (arcOutcome (rooms b ar) (s .args .n) arcs) b ar 3 0 0 0 0 (count-above (rooms b ar) (s .args .n) arcs (c .before .if2 .taken)) refl)
+
+-- src/limits.rt:57:9
+refused-requires-3 : tie.Need-refused-requires-3
+refused-requires-3 c κs = search needs
+
+-- src/limits.rt:57:9
+returns-3 : tie.Need-returns-3
+returns-3 c =
+    let s = c .before .before .before .before .before .before .before in
+    let b = s .args .bytes .now in
+    let ar = s .args .area .now in
+    λ arcs size all.
+    subst (λ a. Gives (arcOutcome (rooms b ar) (s .args .n) arcs) b ar a b ar) (sym (c .refused3 .ensures))
+    (gives-refusal _ (arcOutcome (rooms b ar) (s .args .n) arcs) b ar 4 0 0 0 0
+    (count-many (rooms b ar) (s .args .n) arcs
+    (some-jobs (c .before .before .before .if1 .left)) (c .before .before .if2 .left) (omega (arith, size, c .before .if3 .taken))) refl)
+
+-- src/limits.rt:59:5
+of-list-requires : tie.Need-of-list-requires
+of-list-requires c κs = search needs
+
+-- src/limits.rt:45:1
+same-length : tie.Need-same-length
+same-length c = search needs
+
+-- src/limits.rt:45:1
+same-length-2 : tie.Need-same-length-2
+same-length-2 c = search needs
+
+-- src/limits.rt:45:1
+returns-4 : tie.Need-returns-4
+returns-4 c =
+    let test = c .before .before .before .before .before .before .before .before .before in
+    let s = test .before .before .before .before in
+    let b = s .args .bytes .now in
+    let ar = s .args .area .now in
+    let few = c .before .before .before .before .before .before .before .if3 .left in
+    λ arcs size all.
+    gives-same
+    (ap (listed (rooms b ar) (s .args .n)) (all few)
+    ∙ sym (count-listed (rooms b ar) (s .args .n) arcs (some-jobs (test .if1 .left))
+    (c .before .before .before .before .before .before .before .before .if2 .left) (omega (arith, size, few))))
+    (c .before .before .before .before .of-list .ensures)
+
+pub of-count-spec : {M : Type 1} → statement M
+of-count-spec =
+    tie.close
+    (tie.spec
+    refused-requires
+    returns
+    refused-requires-2
+    returns-2
+    refused-requires-3
+    returns-3
+    of-list-requires
+    same-length
+    same-length-2
+    returns-4)

@@ -1,0 +1,84 @@
+//! An order taken apart, or its refusal.
+use crate::Analysis;
+use crate::Verdict;
+use crate::areas;
+use crate::refused;
+use relation::Found;
+use relation::FoundFour;
+use relation::arcs;
+use relation::order;
+use relation::reduction;
+use relation::search;
+use writer::writing;
+ghost use Prim.Native.Nat.{ℕ, _<_, _≤_};
+ghost use mathlib.Core.Path.{_≡_};
+ghost use mathlib.Core.Option.{none};
+ghost use lib.ListN.{length};
+ghost use Rattle.poset.specs.Order.{Strict, Within, before, firstN};
+ghost use Rattle.poset.specs.Decompose.{treeOf};
+ghost use Rattle.relation.specs.Table.{holds, Inside};
+ghost use Rattle.relation.specs.Arcs.{pairs};
+ghost use Rattle.analysis.specs.Outcome.{decomposed, ordered};
+ghost use Rattle.analysis.specs.Result.{Gives, rooms, crossedBy};
+
+// An order that no tree means: the first N.
+fn crossed(after: &[[u64; 2]; 128], under: &[[u64; 2]; 128], n: usize) -> Analysis
+    requires { ⌜ n ≤ 128 ⌝ }
+    requires { ⌜ Inside n (now after) ⌝ }
+    requires { ⌜ ((u v : ℕ) → holds (now under) u v ≡ holds (now after) v u) ⌝ }
+    ensures { λ r. ⌜ r ≡ crossedBy (firstN n (holds (now (after .entry)))) ⌝ }
+{
+    let four = search::first_n(after, under, n);
+    match four {
+        FoundFour::At(a, b, c, d) => refused(Verdict::Crossed(a, b, c, d)),
+        FoundFour::Nothing => refused(Verdict::Crossed(0, 0, 0, 0)),
+    }
+}
+
+// A strict order: its record and its reduced orders, each written once both are known to fit.
+fn take_apart(after: [[u64; 2]; 128], n: usize, bytes: &mut [u8], area: &mut [u8]) -> Analysis
+    requires { ⌜ (0 < n) × (n ≤ 128) ⌝ }
+    requires { ⌜ Strict n (holds after) ⌝ }
+    requires { ⌜ Inside n after ⌝ }
+    ensures { λ r. ⌜ Gives (decomposed (rooms (now (bytes .entry)) (now (area .entry))) n (holds after))
+        (now (bytes .entry)) (now (area .entry)) r (now (bytes .exit)) (now (area .exit)) ⌝ }
+{
+    let under = order::transposed(after, n);
+    let written = writing::write_record(&after, &under, n);
+    if !written.ok {
+        return crossed(&after, &under, n);
+    }
+    let reduced = reduction::reduced(after, n);
+    let count = reduction::pair_count(&reduced, n);
+    if bytes.len() < written.count {
+        return refused(Verdict::RecordRoom);
+    }
+    if area.len() < 2 * count {
+        return refused(Verdict::ArcRoom);
+    }
+    let spelt = written.bytes;
+    let forward = written.forward;
+    let reverse = written.reverse;
+    areas::copy(&spelt, written.count, bytes);
+    reduction::write_pairs(&reduced, n, area);
+    Analysis {
+        verdict: Verdict::Accepted(written.count, count, written.groups),
+        forward,
+        reverse,
+    }
+}
+
+// The order of arcs that name jobs below n alone.
+pub fn of_arcs(list: &[u16], n: usize, bytes: &mut [u8], area: &mut [u8]) -> Analysis
+    requires { ⌜ (0 < n) × (n ≤ 128) ⌝ }
+    requires { ⌜ Within n (pairs (now list)) ⌝ }
+    ensures { λ r. ⌜ Gives (ordered (rooms (now (bytes .entry)) (now (area .entry))) n (before n (pairs (now (list .entry)))))
+        (now (bytes .entry)) (now (area .entry)) r (now (bytes .exit)) (now (area .exit)) ⌝ }
+{
+    let after = order::closure(arcs::table_of(list), n);
+    let circle = order::first_on_cycle(&after, n);
+    match circle {
+        Found::At(u) => refused(Verdict::Cycle(u)),
+        Found::Nothing => take_apart(after, n, bytes, area),
+    }
+}
