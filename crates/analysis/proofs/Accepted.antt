@@ -10,7 +10,7 @@ use Rattle.poset.specs.Tree.{Tree, Means, canonical}
 use Rattle.poset.proofs.Theorems.{before-is-run, canonical-unique, realizer, reversed-spans, reduction-is-covers}
 use Rattle.analysis.specs.Outcome.{Rooms, Outcome, refuse, accept}
 use Rattle.analysis.specs.Sentences.{limits}
-use Rattle.analysis.proofs.Claims.{None, Yield}
+use Rattle.analysis.specs.Claims.{None, Yield}
 use Rattle.analysis.proofs.Fates.{run-below, clear-within, clear-count, Fate, miscounted, many, outlying, looping, cyclic, crossed, long, wide, done}
 
 module _ (n : ℕ) (arcs : List Arc) (clear : None (limits n arcs)) where

@@ -1,19 +1,23 @@
 -- What the answers on a sheet, a pair list and a record say.
 use Prim.Native.Nat.{ℕ}
-use mathlib.Core.Path.{_≡_, refl, subst₂}
-use mathlib.Core.List.{List}
+use mathlib.Core.Path.{_≡_, refl, ap, subst₂, _∙_}
+use mathlib.Core.List.{List, flatMap}
 use mathlib.Core.Logic.{inl, inr, _≢_}
 use native.Mathlib.Omega.{arith}
+use lib.ListN.{replicate}
+use Rattle.poset.specs.Areas.{overlay, padded}
 use Rattle.poset.specs.Lists.{any, member}
 use Rattle.poset.specs.Order.{Arc}
 use Rattle.poset.proofs.Laws.{clash}
-use Rattle.relation.specs.Arcs.{pairs}
+use Rattle.relation.specs.Arcs.{pairs, arcBytes}
 use Rattle.sheet.specs.Text.{LineForm}
 use Rattle.sheet.specs.Scan.{broken, scan}
 use Rattle.sheet.proofs.Theorems.{scan-sheet}
 use Rattle.analysis.specs.Outcome.{Rooms, Outcome, refuse, readBack}
 use Rattle.analysis.specs.Sentences.{SheetNumber, PairNumber, RecordNumber}
-use Rattle.analysis.proofs.Claims.{Untouched, Named, Unnamed, Yield}
+use Rattle.analysis.specs.Claims.{Untouched, Named, Unnamed, Yield, RecordYield}
+use Rattle.analysis.specs.Result.{Gives}
+use Rattle.analysis.specs.declared.Analysis.{Analysis}
 use Rattle.analysis.proofs.Numbers.{names-none, fate-number, fate-untouched, fate-named, fate-unnamed, fate-not-2}
 use Rattle.analysis.proofs.Accepted.{fate-yield}
 use Rattle.analysis.proofs.Inputs.{SheetFate, oversize, misformed, formed, PairFate, odd, even, RecordFate, misspelt, broad, read}
@@ -121,3 +125,22 @@ module _ (room : ℕ) (bytes : List ℕ) where
   record-unnamed (misspelt h) = (λ _. refl, λ _. (refl, refl, refl))
   record-unnamed (broad r l) = (λ _. refl, λ _. (refl, refl, refl))
   record-unnamed (read r l) = (λ e. absurd (clash refl e), λ e. absurd (clash refl e))
+
+  pub record-yield : {o : Outcome} → RecordFate room bytes o → o .verdict .number ≡ 0 → RecordYield bytes o
+  unfolding refuse readBack
+  record-yield (misspelt h) z = absurd (omega arith)
+  record-yield (broad r l) z = absurd (omega arith)
+  record-yield (read {n = n} {t = t} r l) z =
+      record { jobs = n; tree = t; spells = r; verdict-is = refl; arcs-are = refl; forward-is = refl; reverse-is = refl }
+
+-- a call that refuses
+
+pub untouched-areas : {o : Outcome} {bytes area bytes′ area′ : List ℕ} {r : Analysis} → Gives o bytes area r bytes′ area′ → Untouched o
+    → (bytes′ ≡ bytes) × (area′ ≡ area) × (r .forward ≡ replicate 128 0) × (r .reverse ≡ replicate 128 0)
+unfolding overlay arcBytes flatMap
+untouched-areas {bytes = bytes} {area = area} g (b, a, f, v) = (
+  g .record-is ∙ ap (λ (l : List ℕ). overlay l bytes) b,
+  g .arcs-are ∙ ap (λ (l : List Arc). overlay (arcBytes l) area) a,
+  g .forward-is ∙ ap padded f,
+  g .reverse-is ∙ ap padded v,
+)

@@ -15,8 +15,7 @@ use Rattle.sheet.specs.Text.{lineEnd, space}
 use Rattle.sheet.specs.Scan.{digitFits, withDigit, ending, endsNumber, ended, stopped, scanFrom, scan}
 use Rattle.analysis.specs.Answer.{answer}
 use Rattle.analysis.specs.Outcome.{Outcome, refuse, accept, arcsFit, fitted, decomposed, ordered, listed, arcOutcome, scanned, sheetOutcome}
-use Rattle.analysis.specs.Outcome.{readBack, recordOutcome}
-use Rattle.analysis.proofs.Claims.{roomy}
+use Rattle.analysis.specs.Outcome.{roomy, readBack, recordOutcome}
 
 -- bytes read as a sheet or as a record
 pub data Input : Type 0 where

@@ -7,7 +7,7 @@ use mathlib.Core.Option.{Option, none, some}
 use mathlib.Core.Logic.{inl, inr, _↔_}
 use Rattle.poset.proofs.Laws.{clash}
 use Rattle.analysis.specs.Sentences.{Check, First}
-use Rattle.analysis.proofs.Claims.{None}
+use Rattle.analysis.specs.Claims.{None}
 
 module _ (otherwise : ℕ → Type 0) (k : ℕ) where
   -- where none of the checks ahead holds, the others tell the number

@@ -13,7 +13,7 @@ use Rattle.record.specs.Layout.{IsRecord}
 use Rattle.sheet.specs.Text.{LineForm}
 use Rattle.analysis.specs.Outcome.{Rooms, Outcome, arcOutcome, sheetOutcome, pairOutcome}
 use Rattle.analysis.specs.Sentences.{First, limits, crossing, accepted}
-use Rattle.analysis.proofs.Claims.{None, FirstN, places}
+use Rattle.analysis.specs.Claims.{None, FirstN, places}
 use Rattle.analysis.proofs.Checks.{after}
 use Rattle.analysis.proofs.Fates.{clear-count, clear-strict, fate}
 use Rattle.analysis.proofs.Numbers.{fate-number, fate-named}

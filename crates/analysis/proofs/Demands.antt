@@ -1,9 +1,9 @@
--- The demands of document 01. Each theorem is stated in full and cited. `Claims` and the specs have the words that they use.
+-- The demands of document 01. Each theorem is stated in full and cited. The specs, `Claims` above all, have the words that they use.
 use Prim.Native.Nat.{ℕ, _+_, _*_, _%_, _≤_, _<_}
 use mathlib.Core.Path.{_≡_}
 use mathlib.Core.List.{List}
 use mathlib.Core.Logic.{_⊎_, _↔_, _≢_}
-use lib.ListN.{length, take}
+use lib.ListN.{length, take, replicate}
 use Rattle.poset.specs.Order.{Arc, before, HasN}
 use Rattle.poset.specs.Tree.{Tree, Means, HasTree}
 use Rattle.relation.specs.Arcs.{pairs}
@@ -11,9 +11,11 @@ use Rattle.record.specs.Bits.{AllBelow}
 use Rattle.record.specs.Layout.{IsRecord}
 use Rattle.sheet.specs.Text.{LineForm, Continues}
 use Rattle.sheet.proofs.Theorems.{scan-place}
-use Rattle.analysis.specs.Outcome.{Rooms, sheetOutcome, pairOutcome, recordOutcome}
+use Rattle.analysis.specs.Outcome.{Rooms, roomy, Outcome, sheetOutcome, pairOutcome, recordOutcome}
 use Rattle.analysis.specs.Sentences.{limits, SheetNumber, PairNumber, RecordNumber}
-use Rattle.analysis.proofs.Claims.{None, Untouched, Named, Unnamed, FirstN, places, Yield, Alike}
+use Rattle.analysis.specs.Claims.{None, Untouched, Named, Unnamed, FirstN, places, Yield, RecordYield, Alike}
+use Rattle.analysis.specs.Result.{Gives}
+use Rattle.analysis.specs.declared.Analysis.{Analysis}
 use Rattle.analysis.proofs.Inputs.{sheet-fate, pair-fate, record-fate}
 use Rattle.analysis.proofs.Answers
 use Rattle.analysis.proofs.ReadBack
@@ -45,6 +47,12 @@ untouched-pairs rooms n list = Answers.pair-untouched rooms n list (pair-fate ro
 pub untouched-record
     : (room : ℕ) (bytes : List ℕ) → AllBelow 256 bytes → recordOutcome room bytes .verdict .number ≢ 0 → Untouched (recordOutcome room bytes)
 untouched-record room bytes below = Answers.record-untouched room bytes (record-fate room bytes below)
+
+-- and so the areas stay as they were, and both sequences are all zeros
+pub unchanged
+    : {o : Outcome} {bytes area bytes′ area′ : List ℕ} {r : Analysis} → Gives o bytes area r bytes′ area′ → Untouched o
+    → (bytes′ ≡ bytes) × (area′ ≡ area) × (r .forward ≡ replicate 128 0) × (r .reverse ≡ replicate 128 0)
+unchanged = Answers.untouched-areas
 
 -- the place of 2
 
@@ -103,13 +111,24 @@ pub reads-back-pairs
     → Alike (recordOutcome room (pairOutcome rooms n list .bytes)) (pairOutcome rooms n list)
 reads-back-pairs rooms n list room zero = ReadBack.yield-read-back (yield-pairs rooms n list zero) room
 
--- bytes are refused as a record exactly when no accepted sheet yields them
+-- any bytes that are read as a record
+
+pub yield-record
+    : (room : ℕ) (bytes : List ℕ) → AllBelow 256 bytes → recordOutcome room bytes .verdict .number ≡ 0 → RecordYield bytes (recordOutcome room bytes)
+yield-record room bytes below = Answers.record-yield room bytes (record-fate room bytes below)
+
+-- bytes are refused as a record exactly when no accepted sheet yields them; where they are not, here is one
 
 pub no-other-record
     : (room : ℕ) (bytes : List ℕ) → AllBelow 256 bytes
     → (recordOutcome room bytes .verdict .number ≡ 11)
     ↔ ((rooms : Rooms) (s : List ℕ) → sheetOutcome rooms s .verdict .number ≡ 0 → sheetOutcome rooms s .bytes ≡ bytes → ⊥)
 no-other-record room bytes below = Sheets.record-none room bytes (record-fate room bytes below)
+
+pub record-of-a-sheet
+    : (room : ℕ) (bytes : List ℕ) → AllBelow 256 bytes → recordOutcome room bytes .verdict .number ≢ 11
+    → (s : List ℕ) × (sheetOutcome roomy s .verdict .number ≡ 0) × (sheetOutcome roomy s .bytes ≡ bytes)
+record-of-a-sheet room bytes below = Sheets.record-sheet room bytes (record-fate room bytes below)
 
 -- Demand 3, for sheets: in the line form, not too long, and no sentence tested ahead of 8 holds.
 

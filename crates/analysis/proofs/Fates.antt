@@ -17,7 +17,7 @@ use Rattle.relation.specs.Arcs.{place, outside, loop}
 use Rattle.record.specs.Layout.{layout}
 use Rattle.analysis.specs.Outcome.{Rooms, Outcome, refuse, accept, arcsFit, fitted, decomposed, ordered, listed, arcOutcome}
 use Rattle.analysis.specs.Sentences.{limits}
-use Rattle.analysis.proofs.Claims.{None, FirstAt, FirstN}
+use Rattle.analysis.specs.Claims.{None, FirstAt, FirstN}
 use Rattle.analysis.proofs.Checks.{by-test, by-search}
 use Rattle.analysis.proofs.Places.{place-first, place-none, outside-is, loop-is}
 
@@ -39,7 +39,7 @@ run-below {u} {v} w (one m) = w (u, v) m
 run-below {u} w (then {w = x} m r) = (w (u, x) m .0, run-below w r .1)
 
 module _ (n : ℕ) (arcs : List Arc) where
-  all-within : ((a : Arc) × List·Memᴰ a arcs × ((n ≤ a .0) ⊎ (n ≤ a .1)) → ⊥) → Within n arcs
+  pub all-within : ((a : Arc) × List·Memᴰ a arcs × ((n ≤ a .0) ⊎ (n ≤ a .1)) → ⊥) → Within n arcs
   all-within none-out a m =
       let h : n ≤ a .0 → ⊥ = λ l. none-out (a, m, inl l) in
       let k : n ≤ a .1 → ⊥ = λ l. none-out (a, m, inr l) in

@@ -1,4 +1,3 @@
-pub mod Claims
 pub mod Checks
 pub mod Places
 pub mod Fates
@@ -14,6 +13,8 @@ pub mod Cases
 pub mod Copying
 pub mod Crossing
 pub mod Taking
+pub mod Decoded
 pub mod Circles
 pub mod Steps
 pub mod SheetArcs
+pub mod Telling

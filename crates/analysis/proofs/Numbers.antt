@@ -15,7 +15,7 @@ use Rattle.record.specs.Layout.{layout}
 use Rattle.analysis.specs.Answer.{Answer}
 use Rattle.analysis.specs.Outcome.{Rooms, Outcome, refuse, accept}
 use Rattle.analysis.specs.Sentences.{First, limits, crossing, accepted, ArcNumber}
-use Rattle.analysis.proofs.Claims.{None, Untouched, FirstAt, Named, Unnamed}
+use Rattle.analysis.specs.Claims.{None, Untouched, FirstAt, Named, Unnamed}
 use Rattle.analysis.proofs.Checks.{past}
 use Rattle.analysis.proofs.Fates.{Fate, miscounted, many, outlying, looping, cyclic, crossed, long, wide, done}
 

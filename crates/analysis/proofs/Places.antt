@@ -9,7 +9,7 @@ use lib.Dec.{leb, leb→le, le→leb}
 use Rattle.poset.specs.Order.{Arc}
 use Rattle.poset.proofs.Laws.{decided, clash, T-true, true-T, or-cases, or-left, or-right, eqb-true, eqb-same, found-or-none, found-clash}
 use Rattle.relation.specs.Arcs.{placeFrom, place, outside, loop}
-use Rattle.analysis.proofs.Claims.{FirstAt}
+use Rattle.analysis.specs.Claims.{FirstAt}
 
 module _ {ℓ κ} {A : Type ℓ} (p : A → Bool) (P : A → Type κ) (decides : (x : A) → (p x ≡ true) ↔ P x) where
   fails : (x : A) → p x ≡ false → P x → ⊥

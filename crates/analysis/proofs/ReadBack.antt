@@ -16,7 +16,7 @@ use Rattle.poset.proofs.Reduction.{covers-iff}
 use Rattle.record.specs.Decode.{decode}
 use Rattle.record.proofs.Theorems.{decode-layout}
 use Rattle.analysis.specs.Outcome.{Outcome, arcsFit, readBack, recordOutcome}
-use Rattle.analysis.proofs.Claims.{Yield, Alike}
+use Rattle.analysis.specs.Claims.{Yield, Alike}
 use Rattle.analysis.proofs.Fates.{ltb-is}
 
 -- the reduction depends on the relation among the jobs below n alone
@@ -55,14 +55,19 @@ module _ (n : ℕ) where
 
 -- reading the record of an accepted input
 
+pub record-some
+    : (room : ℕ) (bytes : List ℕ) (n : ℕ) (t : Tree) → decode bytes ≡ some (n, t) → recordOutcome room bytes ≡ arcsFit room (readBack bytes n t)
+unfolding recordOutcome
+record-some room bytes n t e = rw (e, recordOutcome)
+
 pub record-read
     : (room : ℕ) (bytes : List ℕ) (n : ℕ) (t : Tree) → decode bytes ≡ some (n, t) → 2 * length (reduction n (precedes t)) ≤ room
     → recordOutcome room bytes ≡ readBack bytes n t
-unfolding recordOutcome arcsFit readBack
+unfolding arcsFit readBack
 record-read room bytes n t e l =
     let fits : ltb room (2 * length (reduction n (precedes t))) ≡ false = false-unless _
     (λ h. omega (arith, ltb-is room (2 * length (reduction n (precedes t))) .0 h)) in
-    rw (e, recordOutcome, fits, arcsFit)
+    record-some room bytes n t e ∙ rw (fits, arcsFit)
 
 pub yield-read-back
     : {n : ℕ} {arcs : List Arc} {o : Outcome} → Yield n arcs o → (room : ℕ) → 2 * length (o .arcs) ≤ room → Alike (recordOutcome room (o .bytes)) o

@@ -3,7 +3,7 @@ use Prim.Native.Nat.{ℕ, _+_, _*_, _≤_, _<_}
 use mathlib.Core.Path.{_≡_, refl, sym, ap, subst, _∙_}
 use mathlib.Core.List.{List, [], _∷_, List·Memᴰ}
 use mathlib.Core.Bool.{true}
-use mathlib.Core.Logic.{inl, inr, ⊎-elim, _↔_}
+use mathlib.Core.Logic.{inl, inr, ⊎-elim, _↔_, _≢_}
 use native.Mathlib.Omega.{arith}
 use lib.Dec.{ltb}
 use lib.ListN.{length, length-append}
@@ -14,9 +14,9 @@ use Rattle.poset.proofs.Theorems.{before-is-run, tree-is-strict, tree-has-no-n,
 use Rattle.record.specs.Layout.{layout, IsRecord}
 use Rattle.record.proofs.Theorems.{layout-length}
 use Rattle.sheet.specs.Text.{decimal, lines, text, LineForm}
-use Rattle.analysis.specs.Outcome.{Rooms, Outcome, refuse, readBack, sheetOutcome}
+use Rattle.analysis.specs.Outcome.{Rooms, roomy, Outcome, refuse, readBack, sheetOutcome}
 use Rattle.analysis.specs.Sentences.{First, limits, crossing, accepted}
-use Rattle.analysis.proofs.Claims.{None, roomy}
+use Rattle.analysis.specs.Claims.{None}
 use Rattle.analysis.proofs.Checks.{by-test, after}
 use Rattle.analysis.proofs.Fates.{ltb-is, run-below, clear-strict, fate}
 use Rattle.analysis.proofs.Numbers.{fate-number}
@@ -118,8 +118,22 @@ module _ (n : ℕ) (t : Tree) (some-job : 0 < n) (few-jobs : n ≤ 128) (spans :
 abbrev pub Unyielded : List ℕ → Type 0
 Unyielded bytes = (rooms : Rooms) (s : List ℕ) → sheetOutcome rooms s .verdict .number ≡ 0 → sheetOutcome rooms s .bytes ≡ bytes → ⊥
 
+spelt-sheet
+    : (bytes : List ℕ) (n : ℕ) (t : Tree) → IsRecord bytes n t
+    → (s : List ℕ) × (sheetOutcome roomy s .verdict .number ≡ 0) × (sheetOutcome roomy s .bytes ≡ bytes)
+spelt-sheet bytes n t r = let f = sheet-for n t (r .least) (r .most) (r .spans) (r .plain) in (f .0, f .1, f .2 ∙ r .spelt)
+
 yielded : (bytes : List ℕ) (n : ℕ) (t : Tree) → IsRecord bytes n t → Unyielded bytes → ⊥
-yielded bytes n t r h = let f = sheet-for n t (r .least) (r .most) (r .spans) (r .plain) in h roomy (f .0) (f .1) (f .2 ∙ r .spelt)
+yielded bytes n t r h = let f = spelt-sheet bytes n t r in h roomy (f .0) (f .1) (f .2)
+
+-- a sheet that yields the bytes of a record
+pub record-sheet
+    : (room : ℕ) (bytes : List ℕ) {o : Outcome} → RecordFate room bytes o → o .verdict .number ≢ 11
+    → (s : List ℕ) × (sheetOutcome roomy s .verdict .number ≡ 0) × (sheetOutcome roomy s .bytes ≡ bytes)
+unfolding refuse
+record-sheet room bytes (misspelt h) e = absurd (e refl)
+record-sheet room bytes (broad {n = n} {t = t} r l) e = spelt-sheet bytes n t r
+record-sheet room bytes (read {n = n} {t = t} r l) e = spelt-sheet bytes n t r
 
 pub record-none : (room : ℕ) (bytes : List ℕ) {o : Outcome} → RecordFate room bytes o → (o .verdict .number ≡ 11) ↔ Unyielded bytes
 unfolding refuse readBack

@@ -1,37 +1,29 @@
 -- An order that a tree means: its record and its reduced orders, and the room for them.
 use Prim.Native.Nat.{ℕ, _*_, _≤_, _<_}
-use mathlib.Core.Path.{_≡_, refl, sym, ap, ap₂, subst, fun-ext, _∙_}
+use mathlib.Core.Path.{_≡_, refl, sym, ap, ap₂, fun-ext, _∙_}
 use mathlib.Core.List.{List}
-use mathlib.Core.Bool.{true, false}
-use mathlib.Core.Option.{Option, none, some}
+use mathlib.Core.Bool.{false}
+use mathlib.Core.Option.{some}
 use native.Mathlib.Omega.{arith}
 use lib.Dec.{ltb}
 use lib.ListN.{length, take}
-use lib.Seq.{length-take-le}
 use Rattle.poset.specs.Areas.{overlay, padded}
 use Rattle.poset.specs.Order.{Rel, Strict, covers, pairsOf, reduction}
-use Rattle.poset.specs.Tree.{Tree}
+use Rattle.poset.specs.Tree.{Tree, leaves, reversed, groups}
 use Rattle.poset.specs.Decompose.{treeOf}
-use Rattle.poset.proofs.Laws.{clash, lt-true, false-unless, ltb-true}
+use Rattle.poset.proofs.Laws.{lt-true, false-unless, ltb-true}
 use Rattle.poset.proofs.Theorems.{reduction-fits}
 use Rattle.relation.specs.Table.{holds}
 use Rattle.relation.specs.Arcs.{arcBytes}
 use Rattle.record.specs.Layout.{layout}
-use Rattle.writer.specs.Written.{Writes, WrittenOf}
+use Rattle.writer.specs.Written.{written}
 use Rattle.writer.specs.declared.writing.Written.{Written}
+use Rattle.writer.proofs.Spelling.{bytes-count, bytes-are}
 use Rattle.analysis.specs.Answer.{answer}
 use Rattle.analysis.specs.Outcome.{Outcome, refuse, accept, arcsFit, fitted, decomposed}
 use Rattle.analysis.specs.Result.{refusal, rooms, Gives}
 use Rattle.analysis.specs.declared.Verdict.the-variants as verdict
-use Rattle.analysis.proofs.Crossing.{gives-refusal, tree-outcome}
-
-pub written-tree : (n : ℕ) (o : Option Tree) (w : Written) → WrittenOf n o w → w .ok ≡ true → (t : Tree) × (o ≡ some t) × Writes n t w
-written-tree n none w h e = absurd (clash e h)
-written-tree n (some t) w h e = (t, refl, h)
-
-pub unwritten : (n : ℕ) (o : Option Tree) (w : Written) → WrittenOf n o w → w .ok ≡ false → o ≡ none
-unwritten n none w h e = refl
-unwritten n (some t) w h e = absurd (clash (h .accepted) e)
+use Rattle.analysis.proofs.Crossing.{gives-same, gives-refusal, tree-outcome}
 
 pub reduced-pairs : (n : ℕ) (r : Rel) (t : List (List ℕ)) → ((u v : ℕ) → holds t u v ≡ covers n r u v) → pairsOf n (holds t) ≡ reduction n r
 unfolding reduction
@@ -66,51 +58,76 @@ module _ (bytes area : List ℕ) (o : Outcome) where
       false-unless (ltb (length area) (2 * length (o .arcs))) (λ h. omega (arith, ltb-true (length area) (2 * length (o .arcs)) h)) in
       rw (arcsFit, no-more)
 
-module _ (n : ℕ) (r : Rel) (strict : Strict n r) (t : Tree) (e : treeOf n r ≡ some t) (w : Written) (writes : Writes n t w)
+-- what an order yields: a record of so many bytes, those of it that are written, the reduction and the sequences
+abbrev pub yielded : ℕ → List ℕ → ℕ → Rel → Tree → Outcome
+yielded size written n r t =
+    record {
+      verdict = answer 0 size (length (reduction n r)) (groups t) 0;
+      bytes = written;
+      arcs = reduction n r;
+      forward = leaves t;
+      reverse = reversed t;
+    }
+
+-- and what a call hands back of it, where the area has room for the reduced orders or not
+module _ (n : ℕ) (r : Rel) (t : Tree) (size : ℕ) (written : List ℕ)
     (red : List (List ℕ)) (same : (u v : ℕ) → holds red u v ≡ covers n r u v) (count : ℕ) (counts : count ≡ length (pairsOf n (holds red)))
-    (bytes area : List ℕ) where
-  abbrev outcome : Outcome
-  outcome = accept n r t
-
-  record-length : length (outcome .bytes) ≡ w .count
-  unfolding accept
-  record-length = ap length (sym (writes .these)) ∙ length-take-le (w .count) (w .bytes) (omega (arith, writes .size, writes .few))
-
-  arcs-length : length (outcome .arcs) ≡ count
-  unfolding accept
+    (bytes area : List ℕ) (whole : Outcome) (fits : whole ≡ arcsFit (length area) (yielded size written n r t)) where
+  arcs-length : length (reduction n r) ≡ count
   arcs-length = ap length (sym (reduced-pairs n r red same)) ∙ sym counts
 
-  whole : decomposed (rooms bytes area) n r ≡ fitted (rooms bytes area) outcome
-  whole = tree-outcome (rooms bytes area) n r t strict e
+  pub gives-short : length area < 2 * count → Gives whole bytes area (refusal verdict.ArcRoom) bytes area
+  gives-short l =
+      gives-refusal verdict.ArcRoom whole bytes area 10 0 0 0 0
+      (fits ∙ short-arcs bytes area (yielded size written n r t) (omega (arith, arcs-length))) refl
 
-  pub gives-9 : length bytes < w .count → Gives (decomposed (rooms bytes area) n r) bytes area (refusal verdict.RecordRoom) bytes area
+  pub gives-long : 2 * count ≤ length area → (k : ℕ) (forward reverse bytes′ area′ : List ℕ) → k ≡ groups t → forward ≡ padded (leaves t)
+      → reverse ≡ padded (reversed t) → bytes′ ≡ overlay written bytes → area′ ≡ overlay (arcBytes (pairsOf n (holds red))) area
+      → Gives whole bytes area (record { verdict = verdict.Accepted size count k; forward = forward; reverse = reverse }) bytes′ area′
+  gives-long l k forward reverse bytes′ area′ number forth back spelt listed =
+      gives-same (sym (fits ∙ long-arcs bytes area (yielded size written n r t) (omega (arith, arcs-length))))
+      (record {
+        answers = ap₂ (λ (c g : ℕ). answer 0 size c g 0) (sym arcs-length) number;
+        record-is = spelt;
+        arcs-are = listed ∙ ap (λ l. overlay (arcBytes l) area) (reduced-pairs n r red same);
+        forward-is = forth;
+        reverse-is = back;
+      })
+
+-- an order taken apart
+module _ (n : ℕ) (few : n ≤ 128) (r : Rel) (strict : Strict n r) (t : Tree) (e : treeOf n r ≡ some t) (w : Written) (is : w ≡ written n (some t))
+    (red : List (List ℕ)) (same : (u v : ℕ) → holds red u v ≡ covers n r u v) (count : ℕ) (counts : count ≡ length (pairsOf n (holds red)))
+    (bytes area : List ℕ) where
+  abbrev whole : Outcome
+  whole = decomposed (rooms bytes area) n r
+
+  record-length : length (layout n t) ≡ w .count
+  record-length = sym (bytes-count n few r strict t e w is)
+
+  accepted : whole ≡ fitted (rooms bytes area) (accept n r t)
+  accepted = tree-outcome (rooms bytes area) n r t strict e
+
+  fitting : w .count ≤ length bytes → whole ≡ arcsFit (length area) (yielded (w .count) (layout n t) n r t)
+  unfolding accept
+  fitting l =
+      accepted
+      ∙ long-record bytes area (accept n r t) (omega (arith, record-length))
+      ∙ ap (λ (k : ℕ). arcsFit (length area) (yielded k (layout n t) n r t)) record-length
+
+  pub gives-9 : length bytes < w .count → Gives whole bytes area (refusal verdict.RecordRoom) bytes area
+  unfolding accept
   gives-9 l =
-      gives-refusal verdict.RecordRoom (decomposed (rooms bytes area) n r) bytes area 9 0 0 0 0
-      (whole ∙ short-record bytes area outcome (omega (arith, record-length))) refl
+      gives-refusal verdict.RecordRoom whole bytes area 9 0 0 0 0
+      (accepted ∙ short-record bytes area (accept n r t) (omega (arith, record-length))) refl
 
-  pub gives-10 : w .count ≤ length bytes → length area < 2 * count
-      → Gives (decomposed (rooms bytes area) n r) bytes area (refusal verdict.ArcRoom) bytes area
-  gives-10 l m =
-      gives-refusal verdict.ArcRoom (decomposed (rooms bytes area) n r) bytes area 10 0 0 0 0
-      (whole ∙ long-record bytes area outcome (omega (arith, record-length)) ∙ short-arcs bytes area outcome (omega (arith, arcs-length))) refl
+  pub gives-10 : w .count ≤ length bytes → length area < 2 * count → Gives whole bytes area (refusal verdict.ArcRoom) bytes area
+  gives-10 l = gives-short n r t (w .count) (layout n t) red same count counts bytes area whole (fitting l)
 
   pub gives-0 : w .count ≤ length bytes → 2 * count ≤ length area → (bytes′ area′ : List ℕ) → bytes′ ≡ overlay (take (w .count) (w .bytes)) bytes
       → area′ ≡ overlay (arcBytes (pairsOf n (holds red))) area
-      → Gives (decomposed (rooms bytes area) n r) bytes area
+      → Gives whole bytes area
       (record { verdict = verdict.Accepted (w .count) count (w .groups); forward = w .forward; reverse = w .reverse }) bytes′ area′
-  unfolding accept
   gives-0 l m bytes′ area′ eb ea =
-      subst
-      (λ o. Gives o bytes area
-      (record { verdict = verdict.Accepted (w .count) count (w .groups); forward = w .forward; reverse = w .reverse }) bytes′ area′)
-      (sym
-      (whole ∙ long-record bytes area outcome (omega (arith, record-length)) ∙ long-arcs bytes area outcome (omega (arith, arcs-length))))
-      (record {
-        answers =
-            ap₂ (λ a b. answer 0 a b (w .groups) 0) (sym record-length) (sym arcs-length)
-            ∙ ap (λ g. answer 0 (length (outcome .bytes)) (length (outcome .arcs)) g 0) (writes .number);
-        record-is = eb ∙ ap (λ l. overlay l bytes) (writes .these);
-        arcs-are = ea ∙ ap (λ l. overlay (arcBytes l) area) (reduced-pairs n r red same);
-        forward-is = writes .forward-is;
-        reverse-is = writes .reverse-is;
-      })
+      gives-long n r t (w .count) (layout n t) red same count counts bytes area whole (fitting l) m _ _ _ bytes′ area′
+      (ap (λ (w : Written). w .groups) is) (ap (λ (w : Written). w .forward) is) (ap (λ (w : Written). w .reverse) is)
+      (eb ∙ ap (λ l. overlay l bytes) (bytes-are n few r strict t e w is)) ea

@@ -3,3 +3,4 @@ pub mod Answer
 pub mod Outcome
 pub mod Sentences
 pub mod Result
+pub mod Claims

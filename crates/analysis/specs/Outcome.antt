@@ -1,9 +1,9 @@
 -- The refusals in checking order, and what an accepted input yields.
 use Prim.Native.Nat.{ℕ, _*_, _%_}
 use mathlib.Core.List.{List, []}
-use mathlib.Core.Bool.{Bool, true, false, _||_}
+use mathlib.Core.Bool.{true, false, _||_}
 use mathlib.Core.Option.{none, some}
-use lib.Dec.{leb, ltb, eqb}
+use lib.Dec.{ltb, eqb}
 use lib.ListN.{length}
 use Rattle.poset.specs.Order.{Arc, Rel, before, firstOnCycle, firstN, reduction}
 use Rattle.poset.specs.Tree.{Tree, leaves, reversed, groups, precedes}
@@ -18,6 +18,10 @@ use Rattle.analysis.specs.Answer.{Answer, answer}
 pub record Rooms : Type 0 where
   pub record-room : ℕ
   pub arc-room : ℕ
+
+-- room for the longest record and the most reduced arcs
+abbrev pub roomy : Rooms
+roomy = record { record-room = 272; arc-room = 8192 }
 
 -- the answer, what is written to the record area and to the area for reduced orders, and the two sequences
 pub record Outcome : Type 0 where
@@ -52,7 +56,7 @@ arcsFit room o = elim (ltb room (2 * length (o .arcs))) [ true ↦ refuse 10 0 0
 unfoldable pub fitted : Rooms → Outcome → Outcome
 fitted rooms o = elim (ltb (rooms .record-room) (length (o .bytes))) [ true ↦ refuse 9 0 0 0 0 | false ↦ arcsFit (rooms .arc-room) o ]
 
--- 8: the order has an N. Where it has none it has a tree.
+-- 8: the order has an N. Where it has none it has a tree, so that the last case does not occur.
 unfoldable pub decomposed : Rooms → ℕ → Rel → Outcome
 decomposed rooms n r =
     elim (firstN n r) [
@@ -93,7 +97,7 @@ sheetOutcome rooms s = elim (ltb 32772 (length s)) [ true ↦ refuse 1 0 0 0 0 |
 unfoldable pub pairOutcome : Rooms → ℕ → List ℕ → Outcome
 pairOutcome rooms n list = elim (eqb (length list % 2) 0) [ true ↦ arcOutcome rooms n (pairs list) | false ↦ refuse 2 0 0 0 0 ]
 
--- the same for an order that comes from a record: no record is written
+-- what the order of a tree on n jobs yields that its record was read from: as `accept`, but no record is written
 unfoldable pub readBack : List ℕ → ℕ → Tree → Outcome
 readBack bytes n t =
     let arcs = reduction n (precedes t) in

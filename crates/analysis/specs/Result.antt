@@ -1,9 +1,9 @@
 -- What a call hands back and leaves in the areas, by the outcome.
-use Prim.Native.Nat.{ℕ, _-_}
+use Prim.Native.Nat.{ℕ}
 use mathlib.Core.Path.{_≡_}
 use mathlib.Core.List.{List, []}
 use mathlib.Core.Option.{Option, none, some}
-use lib.ListN.{length, replicate}
+use lib.ListN.{length}
 use Rattle.poset.specs.Order.{Four}
 use Rattle.poset.specs.Areas.{overlay, padded}
 use Rattle.relation.specs.Arcs.{arcBytes}

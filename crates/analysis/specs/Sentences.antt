@@ -34,7 +34,7 @@ limits n arcs =
     ∷ (7, (u : ℕ) × Run arcs u u)
     ∷ []
 
--- and after that
+-- tested of them from 8 on
 abbrev pub crossing : Rooms → ℕ → List Arc → List Check
 crossing rooms n arcs =
     (8, HasN n (before n arcs))

@@ -1,12 +1,16 @@
 //! The analysis of sheets and pair lists, and the reading of records.
+pub mod answer;
 mod areas;
 mod limits;
 mod order;
+mod reading;
 
 use sheet::SheetRead;
 ghost use Prim.Native.Nat.{_*_, _≤_};
 ghost use mathlib.Core.Path.{_≡_};
-ghost use Rattle.analysis.specs.Outcome.{sheetOutcome, pairOutcome};
+ghost use mathlib.Core.List.{[]};
+ghost use lib.ListN.{length};
+ghost use Rattle.analysis.specs.Outcome.{sheetOutcome, pairOutcome, recordOutcome};
 ghost use Rattle.analysis.specs.Result.{refusal, rooms, Gives};
 
 // Document 01's answers: acceptance, with the record's bytes, the reduced orders and the groups; then the refusals 1 to 11.
@@ -79,4 +83,12 @@ pub fn analyse_pairs(count: u16, list: &[u16], bytes: &mut [u8], area: &mut [u8]
         return refused(Verdict::Broken(0));
     }
     limits::of_count(count, list.len() / 2, list, bytes, area)
+}
+
+// The reading of bytes as a record: the reduced orders into the area.
+pub fn analyse_record(bytes: &[u8], area: &mut [u8]) -> Analysis
+    ensures { λ r. ⌜ Gives (recordOutcome (length (now (area .entry))) (now (bytes .entry)))
+        [] (now (area .entry)) r [] (now (area .exit)) ⌝ }
+{
+    reading::of_bytes(bytes, area)
 }

@@ -53,3 +53,13 @@ unfolding over
 prints {d} {d′} {s} {r} h w =
     let e : 0 + length s ≡ length s = omega arith in
     record { ends = w .ends ∙ e; fits = h; holds = w .holds ∙ ap (λ (n : ℕ). s ++ drop n d) e }
+
+pub prints-of : {d d′ s t : List ℕ} {r : ℕ} → s ≡ t → Prints d s d′ r → Prints d t d′ r
+prints-of e w = rw e at w
+
+-- what was printed is within the buffer
+pub prints-fits : {d d′ s : List ℕ} {r : ℕ} → Prints d s d′ r → r ≤ length d′
+prints-fits {d} {d′} {s} w = omega (arith, w .ends, ap length (w .holds), length-append s (drop (length s) d))
+
+pub prints-size : {d d′ s : List ℕ} {r : ℕ} → Prints d s d′ r → r ≡ length (take r d′)
+prints-size {d} {d′} {s} {r} w = sym (length-take-le r d′ (prints-fits w))

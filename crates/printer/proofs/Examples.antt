@@ -2,8 +2,7 @@
 use mathlib.Core.Path.{_≡_, refl, ap, _∙_}
 use mathlib.Core.List.{flatMap}
 use Rattle.sheet.specs.Text.{space, lineEnd}
-use Rattle.analysis.specs.Outcome.{refuse, sheetOutcome}
-use Rattle.analysis.proofs.Claims.{roomy}
+use Rattle.analysis.specs.Outcome.{roomy, refuse, sheetOutcome}
 use Rattle.analysis.proofs.Cases.{analysed, printed as outcome, sample-record, cases}
 use Rattle.printer.specs.Text.{ascii, digitsUpTo, digits, hexDigit, hexByte, spaced, line, recordLine, arcLine, acceptedText, refusedText, printed}
 

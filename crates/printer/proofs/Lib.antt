@@ -4,3 +4,6 @@ pub mod Digits
 pub mod Loops
 pub mod Arcs
 pub mod Lines
+pub mod FirstByte
+pub mod Given
+pub mod Enough

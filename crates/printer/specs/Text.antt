@@ -9,7 +9,7 @@ use lib.ListN.{length}
 use Rattle.poset.specs.Order.{Arc}
 use Rattle.relation.specs.Arcs.{pairs}
 use Rattle.sheet.specs.Text.{space, lineEnd}
-use Rattle.analysis.specs.Answer.{Answer, answer}
+use Rattle.analysis.specs.Answer.{Answer, answer, numbersOf}
 use Rattle.analysis.specs.Outcome.{Outcome}
 
 -- the bytes of a text in ASCII
@@ -58,7 +58,7 @@ acceptedText o =
 
 -- the number and the four places
 unfoldable pub refusedText : Answer → List ℕ
-refusedText v = line (ascii "refused") (v .number ∷ v .first ∷ v .second ∷ v .third ∷ v .fourth ∷ [])
+refusedText v = line (ascii "refused") (numbersOf v)
 
 -- what the program prints for an outcome
 unfoldable pub printed : Outcome → List ℕ

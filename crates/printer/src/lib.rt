@@ -1,11 +1,13 @@
 // The text that the program prints, written into a lent buffer. Each inner function writes at a place and returns where its text ends.
+pub mod outcome;
+
 ghost use Prim.Native.Nat.{_+_, _*_, _≤_, _<_};
 ghost use mathlib.Core.Path.{_≡_};
 ghost use mathlib.Core.List.{[], _∷_, flatMap};
 ghost use lib.ListN.{length};
 ghost use Rattle.relation.specs.Arcs.{pairs};
 ghost use Rattle.analysis.specs.Outcome.{refuse};
-ghost use Rattle.printer.specs.Text.{ascii, digits, hexDigit, hexByte, spaced, line, recordLine, arcLine, printed, accepted};
+ghost use Rattle.printer.specs.Text.{digits, hexDigit, hexByte, spaced, line, recordLine, arcLine, printed, accepted};
 ghost use Rattle.printer.specs.Buffer.{Writes, Prints, Limits};
 
 fn put_byte(b: u8, out: &mut [u8], at: usize) -> usize
@@ -124,7 +126,7 @@ fn put_arcs(reduced: &[u8], out: &mut [u8], at: usize) -> usize
     end
 }
 
-// the same for numbers wider than a byte
+// each number after a space
 fn put_numbers(numbers: &[usize], out: &mut [u8], at: usize) -> usize
     requires { ⌜ at + 21 * length (now numbers) ≤ length (now out) ⌝ }
     ensures text { λ r. ⌜ Writes (now (out .entry)) at (flatMap spaced (now (numbers .entry))) (now (out .exit)) r ⌝ }

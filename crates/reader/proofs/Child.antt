@@ -17,12 +17,13 @@ use Rattle.record.specs.Layout.{kindBit, moreChildren, treeBits, forestBits}
 use Rattle.record.proofs.Fields.{length-bits}
 use Rattle.record.proofs.Sizes.{Small}
 use Rattle.reader.specs.Fields.{At, NodeAt, header}
-use Rattle.reader.specs.Parts.{Lists, Strand, alone, Free, Placed, Found, LeafRead, Grouped, ChildRead, ChildrenRead}
+use Rattle.reader.specs.Parts.{Lists, Strand, alone, Free, Placed, Found, LeafRead, Grouped, ChildRead, ChildrenRead, refusedPart}
 use Rattle.reader.specs.Parts.{Plain, PlainUnder, PlainChildren, ofTree, ofForest}
 use Rattle.reader.specs.declared.nodes.Node.{Node}
 use Rattle.reader.specs.declared.parts.Part.{Part}
 use Rattle.reader.proofs.Positions.{at-join}
 use Rattle.reader.proofs.Marks.{free-small}
+use Rattle.reader.proofs.Refusals.{refused-not}
 use Rattle.reader.proofs.Inversion.{one-tree, only-leaf, only-group}
 
 under-other : (k : Kind) (t : Tree) (f : Forest) → alternates k (node (other k) t f) ≡ true
@@ -113,10 +114,10 @@ module _ (k : Kind) (bs : List ℕ) (n floor at done : ℕ) (few : n ≤ 128) (n
     refusal bad none = record { some = λ ok. absurd (clash ok bad); none = λ _. none }
 
     -- no node, or a kind directly in its kind
-    pub child-none : (nd .tag ≡ 0 → ⊥) → (nd .tag ≡ suc (kindBit (other k)) → ⊥) → p .ok ≡ false
+    pub child-none : (nd .tag ≡ 0 → ⊥) → (nd .tag ≡ suc (kindBit (other k)) → ⊥) → p ≡ refusedPart
         → ChildRead k bs n floor at done seen forward next seen' forward' next' p
     child-none not-leaf not-other bad =
-        refusal bad λ t may free s.
+        refusal (refused-not bad) λ t may free s.
         ⊎-elim
         (λ e. h .noneAt e t (free-small few free) s)
         (λ e.

@@ -5,9 +5,12 @@ pub mod Inversion
 pub mod Beginnings
 pub mod Strands
 pub mod Marks
+pub mod Refusals
 pub mod Child
 pub mod Children
 pub mod Calls
 pub mod Walks
+pub mod Later
 pub mod Sequences
+pub mod Realized
 pub mod Whole

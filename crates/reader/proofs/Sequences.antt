@@ -37,7 +37,7 @@ length-joined parallel xs ys = omega (arith, length-append ys xs)
 mutual
   unfolding leaves reversed
 
-  length-reversed : (t : Tree) → length (reversed t) ≡ length (leaves t)
+  pub length-reversed : (t : Tree) → length (reversed t) ≡ length (leaves t)
   length-reversed (leaf j) = refl
   length-reversed (node k t f) =
       length-joined k (reversed t) (forestReversed k f)

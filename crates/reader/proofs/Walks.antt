@@ -22,7 +22,7 @@ unfolding walk
 length-walk next zero x = refl
 length-walk next (suc k) x = ap suc (length-walk next k (getD next x 0))
 
-below-at : (m : ℕ) (xs : List ℕ) (i : ℕ) → AllBelow m xs → i < length xs → getD xs i 0 < m
+pub below-at : (m : ℕ) (xs : List ℕ) (i : ℕ) → AllBelow m xs → i < length xs → getD xs i 0 < m
 below-at m [] i h l = absurd (omega arith)
 below-at m (x ∷ xs) zero h l = below-head h
 below-at m (x ∷ xs) (suc i) h l = below-at m xs i (below-tail h) (omega arith)

@@ -1,10 +1,10 @@
 -- What reading a record gives.
-use Prim.Native.Nat.{ℕ, zero, suc, _-_}
+use Prim.Native.Nat.{ℕ, zero, suc}
 use mathlib.Core.Path.{_≡_}
-use mathlib.Core.List.{List, [], _∷_, _++_}
+use mathlib.Core.List.{List, [], _∷_}
 use mathlib.Core.Bool.{true, false}
 use mathlib.Core.Option.{Option, none, some}
-use lib.ListN.{length, getD, replicate}
+use lib.ListN.{getD}
 use Rattle.poset.specs.Areas.{padded}
 use Rattle.poset.specs.Tree.{Tree, leaves, reversed, groups}
 use Rattle.reader.specs.declared.Reading.{Reading}

@@ -1,4 +1,5 @@
 -- Bits by position.
+-- An inner contract: who reads the promise of read_record need not believe it, but specs/Answer.antt alone.
 use Prim.Native.Nat.{ℕ, suc, _+_, _≤_, _<_, _^_}
 use mathlib.Core.Path.{_≡_}
 use mathlib.Core.List.{List, _∷_, _++_}

@@ -1,4 +1,5 @@
 -- What the readers of a record's parts owe: of a tree, and of the children of a group.
+-- An inner contract: who reads the promise of read_record need not believe it, but specs/Answer.antt alone.
 use Prim.Native.Nat.{ℕ, suc, _+_, _≤_, _<_, min}
 use mathlib.Core.Path.{_≡_}
 use mathlib.Core.List.{List, [], _∷_, List·Memᴰ}
@@ -85,6 +86,10 @@ PlainUnder k t = (alternates k t ≡ true) × Plain t
 -- c + 1 children of a group of kind k
 abbrev pub PlainChildren : Kind → ℕ → Forest → Type 0
 PlainChildren k c f = (moreChildren f ≡ suc c) × CanonForest k f × OnceForest f
+
+-- no part of a record
+abbrev pub refusedPart : Part
+refusedPart = record { ok = false; at = 0; done = 0; groups = 0; least = 0; first = 0; last = 0 }
 
 -- one leaf
 pub record LeafRead (n floor job at done : ℕ) (seen forward seen' forward' : List ℕ) (p : Part) : Type 0 where

@@ -1,5 +1,6 @@
 // The readers of groups. Inside a series group (document 01: a chain) stand leaves and parallel groups, inside a parallel
-// group (a side group) leaves and series groups, so the readers call each other; the bits left fall at each call.
+// group (a side group) leaves and series groups, so the two readers call each other, each over a reader of one child; from the one
+// reader to the other the bits left fall.
 use crate::nodes::node_at;
 use crate::parts::Part;
 use crate::parts::grouped;

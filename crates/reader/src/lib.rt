@@ -1,4 +1,5 @@
-// A record read back: its job count, groups and sequences, or that the bytes are no record.
+// A record read back: its job count, groups and sequences, or that the bytes are no record; and the order of the sequences.
+pub mod ahead;
 mod groups;
 mod nodes;
 mod parts;

@@ -1,9 +1,9 @@
 // Parts of a record: what is read of a tree or of the children of a group, and the work lists beside it.
 ghost use mathlib.Core.Path.{_≡_};
-ghost use mathlib.Core.Bool.{true, false};
+ghost use mathlib.Core.Bool.{true};
 ghost use Prim.Native.Nat.{_≤_, _<_, min};
 ghost use lib.ListN.{set};
-ghost use Rattle.reader.specs.Parts.{LeafRead, Grouped, linkedPart};
+ghost use Rattle.reader.specs.Parts.{refusedPart, LeafRead, Grouped, linkedPart};
 
 // ok: whether the part is one of a record. at, done: the bits and the leaves up to its end. groups, least: of the
 // part. first, last: the ends of its part of the reverse sequence.
@@ -18,7 +18,7 @@ pub struct Part {
 }
 
 pub fn refused() -> Part
-    ensures { λ r. ⌜ r .ok ≡ false ⌝ }
+    ensures { λ r. ⌜ r ≡ refusedPart ⌝ }
 {
     Part {
         ok: false,

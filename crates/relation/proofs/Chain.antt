@@ -8,7 +8,7 @@ use mathlib.Core.Logic.{⊎-elim}
 use borrow.Author.Tests.{leb-false}
 use lib.Dec.{leb}
 use Rattle.poset.specs.Order.{Arc, Within, arc, via, before, covers, Strict, firstOnCycle}
-use Rattle.poset.proofs.Laws.{decided, clash, false-unless, found-clash, and-left, or-left, or-right}
+use Rattle.poset.proofs.Laws.{decided, clash, false-unless, found-clash, or-left, or-right}
 use Rattle.poset.proofs.Closure.{arc-mem, before-is-strict}
 use Rattle.relation.specs.Table.{holds, Inside}
 use Rattle.relation.proofs.Covers.{covers-inside}

@@ -1,20 +1,23 @@
--- The jobs after a job that are after another such job: a sweep over the first, smallest first, that leaves out what it has found.
+-- The jobs after a job that are after another such job: a sweep over the first, from both ends, that leaves out what it has found.
 use Prim.Native.Nat.{ℕ, _+_, _≤_, _<_, zero-le, suc-le-suc}
-use native.Mathlib.Decide.{decLt}
+use native.Mathlib.Decide.{ℕ-discrete}
 use native.Mathlib.Omega.{arith}
-use native.Mathlib.Nat.{lt-of-lt-of-le, eq-or-lt-of-le}
-use mathlib.Core.Path.{_≡_, refl, sym, ap, _∙_}
+use native.Mathlib.Nat.{lt-of-lt-of-le}
+use mathlib.Core.Path.{_≡_, refl, sym, ap, ap₂, _∙_}
 use mathlib.Core.List.{List, []}
 use mathlib.Core.Bool.{Bool, true, false, _&&_, _||_, not}
 use mathlib.Core.Logic.{_⊎_, inl, inr, ⊎-elim}
-use lib.ListN.{length, getD, set, replicate, length-set}
+use lib.Dec.{eqb, ltb}
+use lib.ListN.{length, getD, replicate}
+use borrow.Author.Tests.{lt-ltb, le-ltb, eq-eqb, ne-eqb}
 use Rattle.poset.specs.Lists.{any, below}
 use Rattle.poset.specs.Order.{Rel, Strict, covers}
 use Rattle.poset.proofs.Laws.{decided, clash, false-unless, same-test, and-left, and-right, and-intro, or-cases, or-left, or-right, not-false}
 use Rattle.poset.proofs.Laws.{any-hit, any-found, any-miss, below-mem, mem-below}
 use Rattle.relation.specs.Table.{has, holds, members, Least, Inside}
-use Rattle.relation.proofs.Lists.{keep-fewer}
-use Rattle.relation.proofs.Sets.{members-step}
+use Rattle.relation.proofs.Lists.{and-true, and-false, or-false, keep-fewer}
+use Rattle.relation.proofs.Sets.{ltb-agree, without-least, members-step}
+use Rattle.relation.proofs.Tables.{has-blank}
 
 module _ (n : ℕ) (r : Rel) (u : ℕ) where
   -- some job is after u and before v
@@ -29,14 +32,20 @@ module _ (n : ℕ) (r : Rel) (u : ℕ) where
     pub done : (w : ℕ) → r u w ≡ true → (has rest w ≡ true) ⊎ ((v : ℕ) → r w v ≡ true → has far v ≡ true)
 
 module _ (n : ℕ) (r : Rel) (u : ℕ) (strict : Strict n r) (inside : (u v : ℕ) → r u v ≡ true → (u < n) × (v < n)) where
-  pub swept-none : (far rest : List ℕ) → ((v : ℕ) → has far v ≡ false) → ((v : ℕ) → has rest v ≡ r u v) → Swept n r u far rest
-  swept-none far rest none row =
+  -- the sweep starts with the jobs after u that are before another job
+  pub swept-none
+      : n ≤ 128 → (far rest dom : List ℕ) → ((v : ℕ) → has far v ≡ false) → ((w : ℕ) → has dom w ≡ any (r w) (below 128))
+      → ((w : ℕ) → has rest w ≡ (r u w && has dom w)) → Swept n r u far rest
+  swept-none l far rest dom none some row =
       record {
         sound = λ v e. absurd (clash e (none v));
         closed = λ w v e. absurd (clash e (none w));
-        part = λ w e. sym (row w) ∙ e;
-        done = λ w e. inl (row w ∙ e);
+        part = λ w e. and-left _ _ (sym (row w) ∙ e);
+        done = λ w e. ⊎-elim (λ d. inl (row w ∙ and-intro _ _ e d)) (λ d. inr (λ v g. absurd (clash (before w v g) d))) (decided (has dom w));
       }
+    where
+      before : (w v : ℕ) → r w v ≡ true → has dom w ≡ true
+      before w v e = some w ∙ any-hit (r w) (below-mem (lt-of-lt-of-le (inside w v e .1) l)) e
 
   module _ (far rest : List ℕ) (s : Swept n r u far rest) where
     pub swept-end : n ≤ 128 → any (has rest) (below 128) ≡ false → (v : ℕ) → has far v ≡ between n r u v
@@ -51,58 +60,97 @@ module _ (n : ℕ) (r : Rel) (u : ℕ) (strict : Strict n r) (inside : (u v : �
             (λ g. g v (and-right (r u (f .0)) _ (f .2)))
             (s .done (f .0) p)
 
-    module _ (w : ℕ) (least : Least rest w) (far′ others rest′ : List ℕ)
-        (joined : (v : ℕ) → has far′ v ≡ (has far v || r w v))
-        (without : (v : ℕ) → has others v ≡ (has rest v && any (has rest) (below v)))
-        (left : (v : ℕ) → has rest′ v ≡ (has others v && not (has far′ v)))
+    -- the row of a job of the rest joins what is found
+    pub swept-join : (w : ℕ) → has rest w ≡ true → (far′ : List ℕ) → ((v : ℕ) → has far′ v ≡ (has far v || r w v)) → Swept n r u far′ rest
+    swept-join w m far′ joined =
+        record {
+          sound = λ v e. ⊎-elim (s .sound v) (found v) (or-cases (has far v) _ (sym (joined v) ∙ e));
+          closed =
+              λ x v e d.
+              ⊎-elim
+              (λ g. kept v (s .closed x v g d))
+              (λ g. joined v ∙ or-right (has far v) _ (strict .transitive w x v (inside w x g .0) (inside w x g .1) (inside x v d .1) g d))
+              (or-cases (has far x) _ (sym (joined x) ∙ e));
+          part = s .part;
+          done = λ x e. ⊎-elim inl (λ g. inr (λ v d. kept v (g v d))) (s .done x e);
+        }
       where
         kept : (v : ℕ) → has far v ≡ true → has far′ v ≡ true
         kept v e = joined v ∙ or-left _ _ e
 
-        added : (v : ℕ) → r w v ≡ true → has far′ v ≡ true
-        added v e = joined v ∙ or-right (has far v) _ e
+        found : (v : ℕ) → r w v ≡ true → between n r u v ≡ true
+        found v e = any-hit (λ x. r u x && r x v) (below-mem (inside w v e .0)) (and-intro _ _ (s .part w m) e)
 
-        after-u : r u w ≡ true
-        after-u = s .part w (least .member)
-
-        closed : (x v : ℕ) → has far′ x ≡ true → r x v ≡ true → has far′ v ≡ true
-        closed x v e d =
+    -- the smallest job, whose row has joined, leaves the rest, and so does what is found
+    pub swept-leave
+        : (w : ℕ) → Least rest w → ((v : ℕ) → r w v ≡ true → has far v ≡ true) → (others rest′ : List ℕ)
+        → ((v : ℕ) → has others v ≡ (has rest v && any (has rest) (below v)))
+        → ((v : ℕ) → has rest′ v ≡ (has others v && not (has far v))) → Swept n r u far rest′
+    swept-leave w least all others rest′ without left =
+        record {
+          sound = s .sound;
+          closed = s .closed;
+          part = λ x e. s .part x (and-left _ _ (sym (without x) ∙ and-left _ _ (sym (left x) ∙ e)));
+          done = λ x e. ⊎-elim (still x) inr (s .done x e);
+        }
+      where
+        still : (x : ℕ) → has rest x ≡ true → (has rest′ x ≡ true) ⊎ ((v : ℕ) → r x v ≡ true → has far v ≡ true)
+        still x e =
             ⊎-elim
-            (λ g. kept v (s .closed x v g d))
-            (λ g. added v (strict .transitive w x v (inside w x g .0) (inside w x g .1) (inside x v d .1) g d))
-            (or-cases (has far x) _ (sym (joined x) ∙ e))
-
-        pub swept-next : Swept n r u far′ rest′
-        swept-next =
-            record {
-              sound = λ v e. ⊎-elim (s .sound v) (found v) (or-cases (has far v) _ (sym (joined v) ∙ e));
-              closed = closed;
-              part = λ x e. s .part x (and-left _ _ (sym (without x) ∙ and-left _ _ (sym (left x) ∙ e)));
-              done = λ x e. ⊎-elim (still x) (λ g. inr (λ v d. kept v (g v d))) (s .done x e);
-            }
+            (λ g. inr (λ v d. s .closed x v g d))
+            (λ g. elim (ℕ-discrete x w) [ yes c ↦ inr (λ v d. all v (rw (sym c) d)) | no c ↦ inl (rest-has g c) ])
+            (decided (has far x))
           where
-            found : (v : ℕ) → r w v ≡ true → between n r u v ≡ true
-            found v e = any-hit (λ x. r u x && r x v) (below-mem (inside w v e .0)) (and-intro _ _ after-u e)
+            rest-has : has far x ≡ false → (x ≡ w → ⊥) → has rest′ x ≡ true
+            rest-has g c = left x ∙ and-intro _ _ (without-least rest others w least without x ∙ and-intro _ _ e (not-false _ (ne-eqb x w c))) (not-false _ g)
 
-            still : (x : ℕ) → has rest x ≡ true → (has rest′ x ≡ true) ⊎ ((v : ℕ) → r x v ≡ true → has far′ v ≡ true)
-            still x e =
-                ⊎-elim
-                (λ g. inr (λ v d. closed x v g d))
-                (λ g. ⊎-elim (λ (c : w ≡ x). inr (λ v d. added v (rw c d))) (λ (c : w < x). inl (rest-has c g)) (eq-or-lt-of-le smaller))
-                (decided (has far′ x))
-              where
-                smaller : w ≤ x
-                smaller = elim (decLt x w) [ yes c ↦ absurd (clash e (least .least x c)) | no c ↦ omega arith ]
+  -- a step of the sweep: the rows of the smallest job w and of another job x of the rest join
+  module _ (far rest : List ℕ) (s : Swept n r u far rest) (w x : ℕ) (least : Least rest w) (member : has rest x ≡ true)
+      (near far′ others rest′ : List ℕ)
+      (first : (v : ℕ) → has near v ≡ (has far v || r w v))
+      (second : (v : ℕ) → has far′ v ≡ (has near v || r x v))
+      (without : (v : ℕ) → has others v ≡ (has rest v && any (has rest) (below v)))
+      (left : (v : ℕ) → has rest′ v ≡ (has others v && not (has far′ v)))
+    where
+      pub swept-next : Swept n r u far′ rest′
+      swept-next =
+          swept-leave far′ rest (swept-join near rest (swept-join far rest s w (least .member) near first) x member far′ second) w least
+          (λ v e. second v ∙ or-left _ _ (first v ∙ or-right (has far v) _ e)) others rest′ without left
 
-                rest-has : w < x → has far′ x ≡ false → has rest′ x ≡ true
-                rest-has c g = left x ∙ and-intro _ _ (without x ∙ and-intro _ _ e (any-hit (has rest) (below-mem c) (least .member))) (not-false _ g)
+-- the sweep ends: each time the smallest job is left out, whatever else is
+pub swept-less
+    : (rest others gone rest′ : List ℕ) (w : ℕ) → Least rest w → ((v : ℕ) → has others v ≡ (has rest v && any (has rest) (below v)))
+    → ((v : ℕ) → has rest′ v ≡ (has others v && not (has gone v))) → length (members rest′) < length (members rest)
+unfolding members
+swept-less rest others gone rest′ w least without left =
+    rw (members-step rest others w least without)
+    (suc-le-suc (keep-fewer (has rest′) (has others) (λ v e. and-left _ _ (sym (left v) ∙ e)) (below 128)))
 
-        -- the sweep ends
-        pub swept-less : length (members rest′) < length (members rest)
-        unfolding members
-        swept-less =
-            rw (members-step rest others w least without)
-            (suc-le-suc (keep-fewer (has rest′) (has others) (λ v e. and-left _ _ (sym (left v) ∙ e)) (below 128)))
+-- a set made job by job, which has the jobs below i that pass a test
+pub record Chosen (p : ℕ → Bool) (s : List ℕ) (n i : ℕ) : Type 0 where
+  pub within : i ≤ n
+  pub done : (v : ℕ) → has s v ≡ (ltb v i && p v)
+
+module _ (p : ℕ → Bool) (n : ℕ) where
+  pub chosen-none : Chosen p (replicate 2 0) n 0
+  chosen-none = record { within = zero-le; done = λ v. has-blank v ∙ sym (ap (λ b. b && p v) (le-ltb v 0 (omega arith))) }
+
+  module _ (s : List ℕ) (i : ℕ) (c : Chosen p s n i) where
+    pub chosen-next
+        : i < n → (s′ one : List ℕ) (test : Bool) → ((v : ℕ) → has s′ v ≡ (has s v || (test && has one v)))
+        → test ≡ p i → ((v : ℕ) → has one v ≡ eqb i v) → Chosen p s′ n (i + 1)
+    chosen-next l s′ one test h e o =
+        record { within = omega arith; done = λ v. h v ∙ ap₂ (λ a b. a || b) (c .done v) (ap₂ (λ a b. a && b) e (o v)) ∙ by v (ℕ-discrete v i) }
+      where
+        by : (v : ℕ) → Dec (v ≡ i) → ((ltb v i && p v) || (p i && eqb i v)) ≡ (ltb v (i + 1) && p v)
+        by v (yes d) = rw (d, le-ltb i i (omega arith), lt-ltb i (i + 1) (omega arith), eq-eqb i i refl) (and-true (p i))
+        by v (no d) =
+            rw (ne-eqb i v (λ g. d (sym g)), and-false (p i), or-false (ltb v i && p v))
+            (ap (λ b. b && p v) (ltb-agree v i v (i + 1) (λ m. omega arith) (λ m. omega arith)))
+
+    pub chosen-end : n ≤ i → ((v : ℕ) → p v ≡ true → v < n) → (v : ℕ) → has s v ≡ p v
+    chosen-end l inside v =
+        c .done v ∙ same-test _ _ (λ e. and-right (ltb v i) _ e) (λ e. and-intro _ _ (lt-ltb v i (lt-of-lt-of-le (inside v e) l)) e)
 
 -- the rows of the reduction
 module _ (t : List (List ℕ)) (n : ℕ) where

@@ -1,14 +1,15 @@
 -- Arcs in a flat list, read two numbers at a time, and the place of one among them.
 use Prim.Native.Nat.{ℕ, suc, _+_, _/_, _≤_, _<_}
+use native.Mathlib.Decide.{ℕ-discrete}
 use native.Mathlib.Numerals.{add-one}
 use native.Mathlib.Omega.{arith}
-use mathlib.Core.Path.{_≡_, refl, sym, ap, ap₂, _∙_}
+use mathlib.Core.Path.{_≡_, refl, sym, ap, _∙_}
 use mathlib.Core.List.{List, [], _∷_, List·Memᴰ·head, List·Memᴰ·tail}
 use mathlib.Core.Bool.{Bool, true, false, _&&_, _||_}
 use mathlib.Core.Option.{none, some}
 use lib.Dec.{eqb}
-use lib.ListN.{length, getD, drop, set, replicate, length-drop, length-set}
-use lib.Seq.{drop-cons}
+use lib.ListN.{length, getD, drop, set, replicate, length-drop, length-set, getD-replicate}
+use lib.Seq.{drop-cons, getD-set-same, getD-set-other}
 use borrow.Author.Tests.{eq-eqb, ne-eqb}
 use Rattle.poset.specs.Lists.{any}
 use Rattle.poset.specs.Order.{Arc, Within, arc}
@@ -76,12 +77,20 @@ arc-cons a rest u v = by (eqb (a .0) u && eqb (a .1) v)
 pub record Built (xs : List ℕ) (t : List (List ℕ)) (i : ℕ) : Type 0 where
   pub within : i ≤ length xs
   pub rows : length t ≡ 128
+  pub words : (u : ℕ) → u < 128 → length (getD t u []) ≡ 2
   pub left : (u v : ℕ) → (holds t u v || arc (pairs (drop i xs)) u v) ≡ arc (pairs xs) u v
   pub jobs : Within 128 (pairs (drop i xs))
 
 module _ (xs : List ℕ) where
   pub built-none : Within 128 (pairs xs) → Built xs (replicate 128 (replicate 2 0)) 0
-  built-none w = record { within = omega arith; rows = refl; left = λ u v. rw (holds-blank 128 u v); jobs = w }
+  built-none w =
+      record {
+        within = omega arith;
+        rows = refl;
+        words = λ u l. ap length (getD-replicate 128 u (replicate 2 0) [] l);
+        left = λ u v. rw (holds-blank 128 u v);
+        jobs = w;
+      }
 
   module _ (t : List (List ℕ)) (i : ℕ) (b : Built xs t i) where
     pub built-end : length xs ≤ i + 1 → (u v : ℕ) → holds t u v ≡ arc (pairs xs) u v
@@ -99,14 +108,14 @@ module _ (xs : List ℕ) where
       second-below = jobs-below (getD xs i 0, getD xs (i + 1) 0) (List·Memᴰ·head refl) .1
 
       pub built-next
-          : (row one : List ℕ) → ((v : ℕ) → has row v ≡ (has (getD t (getD xs i 0) []) v || has one v))
-          → ((v : ℕ) → has one v ≡ eqb (getD xs (i + 1) 0) v)
+          : (row : List ℕ) → length row ≡ 2 → ((v : ℕ) → has row v ≡ (has (getD t (getD xs i 0) []) v || eqb (getD xs (i + 1) 0) v))
           → Built xs (set t (getD xs i 0) row) (i + 2)
       unfolding holds
-      built-next row one h g =
+      built-next row two h =
           record {
             within = omega arith;
             rows = length-set t x row ∙ b .rows;
+            words = λ u m. sized u m (ℕ-discrete u x);
             left = λ u v. ap (λ e. e || arc rest u v) (more u v) ∙ or-assoc (holds t u v) _ _ ∙ sym (was u v) ∙ b .left u v;
             jobs = λ a m. jobs-below a (List·Memᴰ·tail m);
           }
@@ -120,10 +129,14 @@ module _ (xs : List ℕ) where
           rest : List Arc
           rest = pairs (drop (i + 2) xs)
 
+          sized : (u : ℕ) → u < 128 → Dec (u ≡ x) → length (getD (set t x row) u []) ≡ 2
+          sized u m (yes e) = rw e (ap length (getD-set-same t x row [] (rw (b .rows) first-below)) ∙ two)
+          sized u m (no d) = ap length (getD-set-other t x u row [] d) ∙ b .words u m
+
           more : (u v : ℕ) → holds (set t x row) u v ≡ (holds t u v || (eqb x u && eqb y v))
           more =
               set-row t x row (λ u v. holds t u v || (eqb x u && eqb y v)) (rw (b .rows) first-below)
-              (λ v. h v ∙ ap₂ (λ e d. holds t x v || (e && d)) (sym (eq-eqb x x refl)) (g v))
+              (λ v. h v ∙ ap (λ e. holds t x v || (e && eqb y v)) (sym (eq-eqb x x refl)))
               (λ u v d. sym (ap (λ e. holds t u v || (e && eqb y v)) (ne-eqb x u (λ e. d (sym e))) ∙ or-false (holds t u v)))
 
           was : (u v : ℕ) → (holds t u v || arc (pairs (drop i xs)) u v) ≡ (holds t u v || ((eqb x u && eqb y v) || arc rest u v))

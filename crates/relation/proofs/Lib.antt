@@ -3,6 +3,7 @@ pub mod Words
 pub mod Sets
 pub mod Tables
 pub mod Flat
+pub mod Columns
 pub mod Warshall
 pub mod Covers
 pub mod Listing

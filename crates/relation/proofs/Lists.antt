@@ -11,10 +11,10 @@ use mathlib.Core.Logic.{⊎-elim}
 use lib.Dec.{ltb}
 use lib.ListN.{length}
 use borrow.Author.Tests.{lt-ltb, le-ltb}
-use Rattle.poset.specs.Lists.{any, keep, upFrom, below, first}
-use Rattle.poset.proofs.Laws.{clash, not-true, not-false}
-use Rattle.poset.proofs.Laws.{decided, any-hit, any-none, keep-yes, keep-not, first-here, first-later, found-or-none}
-use Rattle.poset.proofs.Laws.{below-mem, mem-below}
+use Rattle.poset.specs.Lists.{any, keep, upFrom, below, first, onlyIf}
+use Rattle.poset.proofs.Laws.{decided, any-hit, any-none, keep-yes, keep-not, below-mem, mem-below}
+use Rattle.poset.proofs.Laws.{first-here, first-later, found-or-none, found-clash, only-if-some, only-if-none}
+use Rattle.poset.proofs.Searches.{first-none, none-first}
 
 pub and-true : (b : Bool) → (b && true) ≡ b
 and-true true = refl
@@ -28,17 +28,14 @@ pub and-comm : (a b : Bool) → (a && b) ≡ (b && a)
 and-comm true b = sym (and-true b)
 and-comm false b = sym (and-false b)
 
-pub neither : (a b : Bool) → not (a || b) ≡ true → (a ≡ false) × (b ≡ false)
-neither true b h = absurd (clash h refl)
-neither false b h = (refl, not-true b h)
-
-pub not-either : (a b : Bool) → a ≡ false → b ≡ false → not (a || b) ≡ true
-not-either true b p q = absurd (clash refl p)
-not-either false b p q = not-false b q
-
 pub or-false : (b : Bool) → (b || false) ≡ b
 or-false true = refl
 or-false false = refl
+
+pub not-or : (a b c : Bool) → not (a || (b || c)) ≡ (not a && (not b && not c))
+not-or true b c = refl
+not-or false true c = refl
+not-or false false c = refl
 
 pub or-assoc : (a b c : Bool) → ((a || b) || c) ≡ (a || (b || c))
 or-assoc true b c = refl
@@ -111,6 +108,54 @@ module _ {ℓ} {A : Type ℓ} (p : A → Bool) where
       where
         rest : (y : A) → List·Memᴰ y xs → p y ≡ false → f y ≡ none
         rest y m = h y (List·Memᴰ·tail m)
+
+-- two searches that agree on a list
+pub first-agree {ℓ κ} : {A : Type ℓ} {B : Type κ} (f g : A → Option B) (xs : List A) → ((x : A) → List·Memᴰ x xs → f x ≡ g x) → first f xs ≡ first g xs
+unfolding first
+first-agree f g [] h = refl
+first-agree f g (x ∷ xs) h =
+    let here : f x ≡ g x = h x (List·Memᴰ·head refl) in
+    ⊎-elim
+    (λ s. first-here f x xs (s .1) ∙ sym (first-here g x xs (sym here ∙ s .1)))
+    (λ e. first-later f x xs e ∙ first-agree f g xs (λ y m. h y (List·Memᴰ·tail m)) ∙ sym (first-later g x xs (sym here ∙ e)))
+    (found-or-none (f x))
+
+-- a search over two lists, one after the other
+module _ {ℓ κ} {A : Type ℓ} {B : Type κ} (f : A → Option B) where
+  pub first-append-here : (xs ys : List A) {b : B} → first f xs ≡ some b → first f (xs ++ ys) ≡ some b
+  unfolding first
+  first-append-here [] ys h = absurd (found-clash h refl)
+  first-append-here (x ∷ xs) ys h =
+      ⊎-elim
+      (λ s. first-here f x (xs ++ ys) (s .1) ∙ sym (first-here f x xs (s .1)) ∙ h)
+      (λ e. first-later f x (xs ++ ys) e ∙ first-append-here xs ys (sym (first-later f x xs e) ∙ h))
+      (found-or-none (f x))
+
+  pub first-append-later : (xs ys : List A) → first f xs ≡ none → first f (xs ++ ys) ≡ first f ys
+  first-append-later [] ys h = refl
+  first-append-later (x ∷ xs) ys h =
+      let e = first-none f (List·Memᴰ·head {xs = xs} refl) h in
+      first-later f x (xs ++ ys) e ∙ first-append-later xs ys (sym (first-later f x xs e) ∙ h)
+
+-- a search for the first element that passes a test leads another that finds nothing where the test fails
+module _ {ℓ κ} {A : Type ℓ} {B : Type κ} (p : A → Bool) (g : A → Option B) where
+  pub led-none : (xs : List A) → ((x : A) → List·Memᴰ x xs → p x ≡ false → g x ≡ none) → first (λ x. onlyIf (p x) x) xs ≡ none → first g xs ≡ none
+  led-none xs h e = none-first g xs (λ x m. h x m (only-if-none (p x) x .0 (first-none _ m e)))
+
+  pub led-some
+      : (xs : List A) → ((x : A) → List·Memᴰ x xs → p x ≡ false → g x ≡ none) → {c : A} → first (λ x. onlyIf (p x) x) xs ≡ some c
+      → List·Memᴰ c xs × (p c ≡ true) × ((b : B) → g c ≡ some b → first g xs ≡ some b)
+  unfolding first onlyIf
+  led-some [] h e = absurd (found-clash e refl)
+  led-some (x ∷ xs) h {c} e =
+      ⊎-elim
+      (λ (t : p x ≡ true).
+      let d : x ≡ c = only-if-some true (sym (first-here (λ y. onlyIf (p y) y) x xs (rw t)) ∙ e) .1 in
+      (List·Memᴰ·head (sym d), ap p (sym d) ∙ t, λ b q. first-here g x xs (ap g d ∙ q)))
+      (λ (t : p x ≡ false).
+      let r = led-some xs (λ y m. h y (List·Memᴰ·tail m)) (sym (first-later (λ y. onlyIf (p y) y) x xs (rw t)) ∙ e) in
+      (List·Memᴰ·tail (r .0), r .1, λ b q. first-later g x xs (h x (List·Memᴰ·head refl) t) ∙ r .2 b q))
+      (decided (p x))
 
 -- ranges
 

@@ -5,7 +5,7 @@ use native.Mathlib.Decide.{decLt, ℕ-discrete}
 use native.Mathlib.Omega.{arith}
 use mathlib.Core.Path.{_≡_, refl, sym, ap, ap₂, _∙_}
 use mathlib.Core.List.{List, []}
-use mathlib.Core.Bool.{true, false, _&&_, _||_, not}
+use mathlib.Core.Bool.{Bool, true, false, _&&_, _||_, not}
 use lib.Dec.{eqb, ltb}
 use lib.ListN.{length, getD, set, replicate, length-set}
 use borrow.Author.Tests.{lt-ltb, le-ltb, eq-eqb, ne-eqb}
@@ -13,7 +13,7 @@ use Rattle.poset.specs.Lists.{any, below}
 use Rattle.poset.proofs.Laws.{clash, false-unless, same-test, and-left, and-right, and-intro, any-miss, below-mem}
 use Rattle.relation.specs.Table.{has, holds, Least, Inside}
 use Rattle.relation.proofs.Lists.{and-true, and-false, or-false}
-use Rattle.relation.proofs.Sets.{without-least}
+use Rattle.relation.proofs.Sets.{without-least, half-or}
 use Rattle.relation.proofs.Tables.{row-here, row-there, holds-blank}
 
 -- u is marked in the rows of the jobs, but for those that are left
@@ -78,12 +78,27 @@ module _ (t : List (List ℕ)) (n : ℕ) where
         p .held x v
         ∙ same-test _ _ (λ e. and-right (ltb v u) _ e) (λ e. and-intro _ _ (lt-ltb v u (lt-of-lt-of-le (inside v x e .0) l)) e)
 
+    -- job u is marked in the rows of the jobs of either half of its row
     pub turned-next
-        : u < n → (s : List (List ℕ)) → length s ≡ 128
-        → ((x v : ℕ) → holds s x v ≡ (holds r x v || (has (getD t u []) x && eqb u v))) → Turned t s n (u + 1)
+        : u < n → (low high : List ℕ) → ((v : ℕ) → has low v ≡ (has (getD t u []) v && ltb v 64))
+        → ((v : ℕ) → has high v ≡ (has (getD t u []) v && not (ltb v 64))) → (half s : List (List ℕ)) → length s ≡ 128
+        → ((x v : ℕ) → holds half x v ≡ (holds r x v || (has low x && eqb u v)))
+        → ((x v : ℕ) → holds s x v ≡ (holds half x v || (has high x && eqb u v))) → Turned t s n (u + 1)
     unfolding holds
-    turned-next l s q h = record { within = omega arith; rows = q; held = λ x v. h x v ∙ by x v (decLt v u) (ℕ-discrete v u) }
+    turned-next l low high lows highs half s q h k =
+        record { within = omega arith; rows = q; held = λ x v. whole x v ∙ by x v (decLt v u) (ℕ-discrete v u) }
       where
+        join : (a b c e : Bool) → ((a || (b && e)) || (c && e)) ≡ (a || ((b || c) && e))
+        join true b c e = refl
+        join false true c true = refl
+        join false true c false = and-false c
+        join false false c e = refl
+
+        whole : (x v : ℕ) → holds s x v ≡ (holds r x v || (has (getD t u []) x && eqb u v))
+        whole x v =
+            k x v ∙ ap (λ b. b || (has high x && eqb u v)) (h x v) ∙ join (holds r x v) (has low x) (has high x) (eqb u v)
+            ∙ ap (λ b. holds r x v || (b && eqb u v)) (half-or (getD t u []) low lows high highs x)
+
         by : (x v : ℕ) → Dec (v < u) → Dec (v ≡ u) → (holds r x v || (has (getD t u []) x && eqb u v)) ≡ (ltb v (u + 1) && holds t v x)
         by x v (yes a) e =
             rw (p .held x v, lt-ltb v u a, lt-ltb v (u + 1) (omega arith), ne-eqb u v (λ d. omega arith), and-false (holds t u x)) (or-false (holds t v x))

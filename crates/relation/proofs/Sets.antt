@@ -10,16 +10,19 @@ use mathlib.Core.Logic.{_⊎_, inl, inr, ⊎-elim}
 use mir.Syntax.{w64}
 use mir.Val.{Fits}
 use lib.Dec.{eqb, ltb}
-use lib.ListN.{length, getD, length-append, length-map, List·getD-eq-default}
+use lib.ListN.{length, getD, set, length-append, length-map, List·getD-eq-default}
+use lib.Seq.{getD-set-same, getD-set-other}
 use lib.Bits.{bitAnd, bitOr, or-add-and, and-le-l, and-le-r}
-use lib.Count.{trailingZeros, ones, ones-le}
+use lib.Count.{trailingZeros, leadingZeros, ones, ones-le}
 use borrow.Author.Tests.{lt-ltb, le-ltb, eq-eqb, ne-eqb, ltb-true, eqb-true}
 use Rattle.poset.specs.Lists.{any, keep, upFrom, below}
 use Rattle.poset.proofs.Laws.{clash, false-unless, same-test, any-hit, any-found, any-miss, any-none}
-use Rattle.poset.proofs.Laws.{keep-yes, keep-not, keep-mem, below-mem, mem-below, mem-upFrom}
-use Rattle.relation.specs.Table.{bit, has, members, Least}
-use Rattle.relation.proofs.Lists.{and-true, and-false, and-comm, keep-append, keep-none, keep-agree, keep-shift, below-add, any-after, keep-from}
-use Rattle.relation.proofs.Words.{bit-tested, bit-and, bit-or, bit-complement, bit-zero, bit-power, bit-ones, Lowest, lowest, ones-count}
+use Rattle.poset.proofs.Laws.{keep-yes, keep-not, keep-mem, mem-keep, below-mem, mem-below, mem-upFrom}
+use Rattle.relation.specs.Table.{bit, has, members, Least, Greatest}
+use Rattle.relation.proofs.Lists.{and-true, and-false, and-comm, or-false, keep-append, keep-none, keep-agree, keep-shift, keep-from}
+use Rattle.relation.proofs.Lists.{below-add, any-after}
+use Rattle.relation.proofs.Words.{bit-tested, bit-and, bit-or, bit-complement, bit-zero, bit-power, bit-ones}
+use Rattle.relation.proofs.Words.{Lowest, lowest, Highest, highest, ones-count}
 
 -- what a row has, by its words
 
@@ -42,6 +45,10 @@ has-beyond s v n l =
 
 pub has-small : (s : List ℕ) → length s ≡ 2 → (v : ℕ) → has s v ≡ true → v < 128
 has-small s n v e = elim (decLt v 128) [ yes l ↦ l | no l ↦ absurd (clash e (has-beyond s v n (omega arith))) ]
+
+-- a row with no job below 128 has none
+pub has-none : (s : List ℕ) → length s ≡ 2 → any (has s) (below 128) ≡ false → (v : ℕ) → has s v ≡ false
+has-none s n h v = false-unless _ (λ e. clash e (any-miss (has s) (below 128) h (below-mem (has-small s n v e))))
 
 -- a test of a job's bit in its word
 pub has-tested
@@ -92,19 +99,11 @@ pointwise g z a b m n x y low high =
 pub bit-but : (a b i : ℕ) → i < 64 → Fits w64 b → bit (bitAnd a (2 ^ 64 - 1 - b)) i ≡ (bit a i && not (bit b i))
 bit-but a b i l h = bit-and a _ i ∙ ap (λ (t : Bool). bit a i && t) (bit-complement 64 i b l (h .fits))
 
--- a mask of all ones or of none
+-- a word joined under a mask
 pub bit-masked
-    : (test : Bool) (m : ℕ) → ((test ≡ true) × (m ≡ 2 ^ 64 - 1)) ⊎ ((test ≡ false) × (m ≡ 0))
-    → (a b i : ℕ) → i < 64 → bit (bitOr a (bitAnd b m)) i ≡ (bit a i || (test && bit b i))
-bit-masked test m h a b i l =
-    bit-or a _ i ∙ ap (λ (t : Bool). bit a i || t) (bit-and b m i ∙ ap (λ (t : Bool). bit b i && t) mask ∙ and-comm (bit b i) test)
-  where
-    mask : bit m i ≡ test
-    mask =
-        ⊎-elim
-        (λ w. ap (λ (x : ℕ). bit x i) (w .1) ∙ bit-ones 64 i ∙ lt-ltb i 64 l ∙ sym (w .0))
-        (λ w. ap (λ (x : ℕ). bit x i) (w .1) ∙ bit-zero i ∙ sym (w .0))
-        h
+    : (test : Bool) (m : ℕ) → ((i : ℕ) → i < 64 → bit m i ≡ test) → (a b i : ℕ) → i < 64 → bit (bitOr a (bitAnd b m)) i ≡ (bit a i || (test && bit b i))
+bit-masked test m mask a b i l =
+    bit-or a _ i ∙ ap (λ (t : Bool). bit a i || t) (bit-and b m i ∙ ap (λ (t : Bool). bit b i && t) (mask i l) ∙ and-comm (bit b i) test)
 
 -- some rows
 
@@ -113,7 +112,7 @@ eqb-shift : (a b : ℕ) → eqb (64 + a) (64 + b) ≡ eqb a b
 eqb-shift a b =
     same-test _ _ (λ e. eq-eqb a b (omega (arith, eqb-true (64 + a) (64 + b) e))) (λ e. eq-eqb (64 + a) (64 + b) (omega (arith, eqb-true a b e)))
 
-ltb-agree : (a b c d : ℕ) → (a < b → c < d) → (c < d → a < b) → ltb a b ≡ ltb c d
+pub ltb-agree : (a b c d : ℕ) → (a < b → c < d) → (c < d → a < b) → ltb a b ≡ ltb c d
 ltb-agree a b c d f g = same-test _ _ (λ e. lt-ltb c d (f (ltb-true a b e))) (λ e. lt-ltb a b (g (ltb-true c d e)))
 
 pub only-low : (v : ℕ) → v < 64 → (x : ℕ) → has (2 ^ v ∷ 0 ∷ []) x ≡ eqb v x
@@ -140,6 +139,81 @@ all-below n a b h p q =
     (λ i l. bit-ones a i ∙ ltb-agree i a i n (λ m. omega arith) (λ m. omega arith))
     (λ i l. bit-ones b i ∙ ltb-agree i b (64 + i) n (λ m. omega arith) (λ m. omega arith))
     (λ v l. le-ltb v n (omega arith))
+
+-- a row into which a job is put, in its word
+pub put-in
+    : (s : List ℕ) (v : ℕ) → length s ≡ 2 → v < 128 → (x : ℕ)
+    → has (set s (v / 64) (bitOr (getD s (v / 64) 0) (2 ^ (v % 64)))) x ≡ (has s x || eqb v x)
+unfolding has
+put-in s v two l x = by (ℕ-discrete (x / 64) (v / 64))
+  where
+    word : ℕ
+    word = bitOr (getD s (v / 64) 0) (2 ^ (v % 64))
+
+    by : Dec (x / 64 ≡ v / 64) → bit (getD (set s (v / 64) word) (x / 64) 0) (x % 64) ≡ (bit (getD s (x / 64) 0) (x % 64) || eqb v x)
+    by (yes e) =
+        let inside : v / 64 < length s = rw two (omega arith) in
+        let same : eqb (v % 64) (x % 64) ≡ eqb v x =
+        same-test _ _ (λ d. eq-eqb v x (omega (arith, eqb-true (v % 64) (x % 64) d))) (λ d. eq-eqb (v % 64) (x % 64) (omega (arith, eqb-true v x d))) in
+        rw (e, getD-set-same s (v / 64) word 0 inside, bit-or, bit-power, same)
+    by (no d) = rw (getD-set-other s (v / 64) (x / 64) word 0 d, ne-eqb v x (λ e. d (omega arith))) (sym (or-false _))
+
+-- the two halves of a row
+module _ (s : List ℕ) (two : length s ≡ 2) where
+  pub low-half : (v : ℕ) → has (getD s 0 0 ∷ 0 ∷ []) v ≡ (has s v && ltb v 64)
+  low-half =
+      row-of (getD s 0 0) 0 (λ v. has s v && ltb v 64)
+      (λ i l. sym (has-low s i l) ∙ sym (ap (λ (b : Bool). has s i && b) (lt-ltb i 64 l) ∙ and-true (has s i)))
+      (λ i l. bit-zero i ∙ sym (ap (λ (b : Bool). has s (64 + i) && b) (le-ltb (64 + i) 64 (omega arith)) ∙ and-false (has s (64 + i))))
+      (λ v l. ap (λ (b : Bool). b && ltb v 64) (has-beyond s v two l))
+
+  pub high-half : (v : ℕ) → has (0 ∷ getD s 1 0 ∷ []) v ≡ (has s v && not (ltb v 64))
+  high-half =
+      row-of 0 (getD s 1 0) (λ v. has s v && not (ltb v 64))
+      (λ i l. bit-zero i ∙ sym (ap (λ (b : Bool). has s i && not b) (lt-ltb i 64 l) ∙ and-false (has s i)))
+      (λ i l. sym (has-high s i l) ∙ sym (ap (λ (b : Bool). has s (64 + i) && not b) (le-ltb (64 + i) 64 (omega arith)) ∙ and-true (has s (64 + i))))
+      (λ v l. ap (λ (b : Bool). b && not (ltb v 64)) (has-beyond s v two l))
+
+members-split : (s : List ℕ) → members s ≡ keep (has s) (below 64) ++ keep (has s) (upFrom 64 64)
+unfolding members
+members-split s = ap (keep (has s)) (below-add 64 64) ∙ keep-append (has s) (below 64) (upFrom 64 64)
+
+-- a set and its halves
+
+module _ (s low : List ℕ) (l : (v : ℕ) → has low v ≡ (has s v && ltb v 64)) where
+  pub members-low : members s ≡ members low ++ keep (has s) (upFrom 64 64)
+  members-low = members-split s ∙ ap (λ zs. zs ++ keep (has s) (upFrom 64 64)) (sym lows)
+    where
+      lows : members low ≡ keep (has s) (below 64)
+      lows =
+          members-split low
+          ∙ ap₂ _++_
+          (keep-agree (has low) (has s) (below 64)
+          (λ v m. l v ∙ ap (λ (b : Bool). has s v && b) (lt-ltb v 64 (mem-below 64 m)) ∙ and-true (has s v)))
+          (keep-none (has low) (upFrom 64 64)
+          (λ v m. l v ∙ ap (λ (b : Bool). has s v && b) (le-ltb v 64 (mem-upFrom 64 64 m .0)) ∙ and-false (has s v)))
+          ∙ append-nil _
+
+  module _ (high : List ℕ) (h : (v : ℕ) → has high v ≡ (has s v && not (ltb v 64))) where
+    pub half-or : (v : ℕ) → (has low v || has high v) ≡ has s v
+    half-or v = ap₂ _||_ (l v) (h v) ∙ by (has s v) (ltb v 64)
+      where
+        by : (a b : Bool) → ((a && b) || (a && not b)) ≡ a
+        by true true = refl
+        by true false = refl
+        by false b = refl
+
+    pub members-halves : members s ≡ members low ++ members high
+    members-halves = members-low ∙ ap (λ zs. members low ++ zs) (sym highs)
+      where
+        highs : members high ≡ keep (has s) (upFrom 64 64)
+        highs =
+            members-split high
+            ∙ ap₂ _++_
+            (keep-none (has high) (below 64)
+            (λ v m. h v ∙ ap (λ (b : Bool). has s v && not b) (lt-ltb v 64 (mem-below 64 m)) ∙ and-false (has s v)))
+            (keep-agree (has high) (has s) (upFrom 64 64)
+            (λ v m. h v ∙ ap (λ (b : Bool). has s v && not b) (le-ltb v 64 (mem-upFrom 64 64 m .0)) ∙ and-true (has s v)))
 
 -- what code knows of a row
 pub record Row (s : List ℕ) : Type 0 where
@@ -206,7 +280,7 @@ module _ (s : List ℕ) (r : Row s) where
     low-clear : (i : ℕ) → i < 64 → has s i ≡ false
     low-clear i l = has-low s i l ∙ ap (λ (w : ℕ). bit w i) e ∙ bit-zero i
 
-    pub smallest-high : Least s (64 + trailingZeros 64 (getD s 1 0))
+    smallest-high : Least s (64 + trailingZeros 64 (getD s 1 0))
     smallest-high =
         record { small = omega (arith, second-word .0); member = has-high s z (second-word .0) ∙ second-word .1 .set; least = least }
       where
@@ -222,7 +296,7 @@ module _ (s : List ℕ) (r : Row s) where
                   ap (has s) (sym w) ∙ has-high s (u - 64) (omega (arith, second-word .0)) ∙ second-word .1 .clear (u - 64) (omega arith)
             ]
 
-    pub rest-high : (v : ℕ) → has (0 ∷ bitAnd (getD s 1 0) (getD s 1 0 - 1) ∷ []) v ≡ (has s v && any (has s) (below v))
+    rest-high : (v : ℕ) → has (0 ∷ bitAnd (getD s 1 0) (getD s 1 0 - 1) ∷ []) v ≡ (has s v && any (has s) (below v))
     rest-high v =
         row-of 0 _ (λ u. has s u && not (eqb u (64 + z))) low high beyond v ∙ after-least s (64 + z) smallest-high v
       where
@@ -268,9 +342,47 @@ module _ (s : List ℕ) (r : Row s) where
       by (yes p) (no q) = differs (λ e. q (omega arith)) ∙ sym (least-found _ (smallest-high p q))
       by (no p) q = differs (λ e. p (omega arith)) ∙ sym (least-found _ (smallest-low p))
 
-  -- so where the first word is 0 the second is not
-  pub other-word : any (has s) (below 128) ≡ true → getD s 0 0 ≡ 0 → getD s 1 0 ≡ 0 → ⊥
-  other-word h p q = let f = any-found (has s) (below 128) h in clash (f .2) (empty p q (f .0))
+  -- so where the first word is 0 the second is not, and has the smallest member
+  module _ (h : any (has s) (below 128) ≡ true) (p : getD s 0 0 ≡ 0) where
+    pub second-some : getD s 1 0 ≡ 0 → ⊥
+    second-some q = let f = any-found (has s) (below 128) h in clash (f .2) (empty p q (f .0))
+
+    pub smallest-second : Least s (64 + trailingZeros 64 (getD s 1 0))
+    smallest-second = smallest-high p second-some
+
+    pub rest-second : (v : ℕ) → has (0 ∷ bitAnd (getD s 1 0) (getD s 1 0 - 1) ∷ []) v ≡ (has s v && any (has s) (below v))
+    rest-second = rest-high p second-some
+
+  -- a word that is not 0 has its highest bit
+
+  pub largest-high : (getD s 1 0 ≡ 0 → ⊥) → Greatest s (127 - leadingZeros 64 (getD s 1 0))
+  largest-high h =
+      let f = highest 64 (getD s 1 0) (omega arith) (r .high .fits) in
+      let z = 64 - 1 - leadingZeros 64 (getD s 1 0) in
+      let e : 127 - leadingZeros 64 (getD s 1 0) ≡ 64 + z = omega (arith, f .0) in
+      rw e (record {
+        small = omega arith;
+        member = has-high s z (omega arith) ∙ f .1 .set;
+        greatest =
+            job-ind (λ u. 64 + z < u → has s u ≡ false)
+            (λ i l m. absurd (omega arith))
+            (λ i l m. has-high s i l ∙ f .1 .clear i (omega arith))
+            (λ v l m. has-beyond s v (r .two) l);
+      })
+
+  pub largest-low : getD s 1 0 ≡ 0 → (getD s 0 0 ≡ 0 → ⊥) → Greatest s (63 - leadingZeros 64 (getD s 0 0))
+  largest-low e h =
+      let f = highest 64 (getD s 0 0) (omega arith) (r .low .fits) in
+      let z = 64 - 1 - leadingZeros 64 (getD s 0 0) in
+      record {
+        small = omega arith;
+        member = has-low s z (omega arith) ∙ f .1 .set;
+        greatest =
+            job-ind (λ u. z < u → has s u ≡ false)
+            (λ i l m. has-low s i l ∙ f .1 .clear i m)
+            (λ i l m. has-high s i l ∙ ap (λ (w : ℕ). bit w i) e ∙ bit-zero i)
+            (λ v l m. has-beyond s v (r .two) l);
+      }
 
   pub size-small : ones (getD s 0 0) + ones (getD s 1 0) ≤ 128
   size-small = omega (arith, ones-le 64 (getD s 0 0) (r .low .fits), ones-le 64 (getD s 1 0) (r .high .fits))
@@ -279,8 +391,7 @@ module _ (s : List ℕ) (r : Row s) where
   unfolding members below
   size =
       ap₂ _+_ (ones-count 64 (getD s 0 0) (r .low .fits) ∙ sym low) (ones-count 64 (getD s 1 0) (r .high .fits) ∙ sym high)
-      ∙ sym (ap length (ap (keep (has s)) (below-add 64 64) ∙ keep-append (has s) (below 64) (upFrom 64 64))
-      ∙ length-append (keep (has s) (below 64)) (keep (has s) (upFrom 64 64)))
+      ∙ sym (ap length (members-split s) ∙ length-append (keep (has s) (below 64)) (keep (has s) (upFrom 64 64)))
     where
       low : length (keep (has s) (below 64)) ≡ length (keep (bit (getD s 0 0)) (below 64))
       low = ap length (keep-agree (has s) (bit (getD s 0 0)) (below 64) (λ i m. has-low s i (mem-below 64 m)))
@@ -334,6 +445,10 @@ members-less s t z h rest = omega (arith, ap length (members-step s t z h rest))
 pub members-end : (s : List ℕ) → any (has s) (below 128) ≡ false → members s ≡ []
 unfolding members
 members-end s h = keep-none (has s) (below 128) (λ v m. any-miss (has s) (below 128) h m)
+
+pub members-mem : (s : List ℕ) {v : ℕ} → List·Memᴰ v (members s) → (v < 128) × (has s v ≡ true)
+unfolding members
+members-mem s m = let f = mem-keep (has s) (below 128) m in (mem-below 128 (f .0), f .1)
 
 -- the members of a row that has jobs below n alone
 pub members-below : (n : ℕ) (s : List ℕ) → n ≤ 128 → ((v : ℕ) → has s v ≡ true → v < n) → keep (has s) (below n) ≡ members s

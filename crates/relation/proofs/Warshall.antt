@@ -1,89 +1,85 @@
--- Warshall's closure in place: a pass through one job, and the passes one after the other.
-use Prim.Native.Nat.{ℕ, suc, _+_, _≤_, _<_}
-use native.Mathlib.Nat.{eq-or-lt-of-le}
-use native.Mathlib.Decide.{decLt}
+-- Warshall's closure on two columns of words: a pass through one job, and the passes one after the other.
+use Prim.Native.Nat.{ℕ, suc, _+_, _-_, _≤_, _<_}
 use native.Mathlib.Numerals.{add-one}
 use native.Mathlib.Omega.{arith}
-use mathlib.Core.Path.{_≡_, refl, sym, ap, ap₂, _∙_}
-use mathlib.Core.List.{List, []}
-use mathlib.Core.Bool.{Bool, false, _&&_, _||_}
-use mathlib.Core.Logic.{⊎-elim}
-use lib.ListN.{length, getD, set, length-set}
-use Rattle.poset.specs.Order.{via}
+use mathlib.Core.Path.{_≡_, refl, sym, ap, ap₂, fun-ext, _∙_}
+use mathlib.Core.List.{List, [], _∷_}
+use mathlib.Core.Bool.{Bool, true, false, _&&_, _||_}
+use lib.ListN.{length, getD}
+use Rattle.poset.specs.Lists.{any, below}
+use Rattle.poset.specs.Order.{Rel, via}
 use Rattle.poset.proofs.Laws.{false-unless}
 use Rattle.poset.proofs.Closure.{via-step, via-ind}
-use Rattle.relation.specs.Table.{has, holds, Inside}
-use Rattle.relation.proofs.Lists.{or-false}
-use Rattle.relation.proofs.Tables.{row-here, row-there}
+use Rattle.relation.specs.Table.{bit, has, holds, columns, Joins, Inside}
+use Rattle.relation.proofs.Lists.{and-false, or-false}
+use Rattle.relation.proofs.Sets.{has-none, job-ind}
+use Rattle.relation.proofs.Columns.{column-low, column-high, column-beyond}
 
--- a pass through k that has come to row i
-pub record Passed (t₀ : List (List ℕ)) (after : List ℕ) (t : List (List ℕ)) (k n i : ℕ) : Type 0 where
-  pub within : i ≤ n
-  pub rows : length t ≡ 128
-  pub done : (u v : ℕ) → u < i → holds t u v ≡ (holds t₀ u v || (holds t₀ u k && has after v))
-  pub left : (u v : ℕ) → i ≤ u → holds t u v ≡ holds t₀ u v
+-- Warshall's step on columns: what is before k is before all that k is before
+abbrev pub Step : List ℕ → List ℕ → ℕ → List ℕ → List ℕ → Type 0
+Step low high k low′ high′ = (u v : ℕ) → columns low′ high′ u v ≡ (columns low high u v || (columns low high u k && columns low high k v))
 
-module _ (t₀ : List (List ℕ)) (after : List ℕ) (k n : ℕ) where
-  pub passed-none : length t₀ ≡ 128 → Passed t₀ after t₀ k n 0
-  passed-none h = record { within = omega arith; rows = h; done = λ u v l. absurd (omega arith); left = λ u v l. refl }
+module _ (low high : List ℕ) (k : ℕ) where
+  -- where the words of row k are 0 there is nothing to do
+  pub step-idle : any (has (getD low k 0 ∷ getD high k 0 ∷ [])) (below 128) ≡ false → Step low high k low high
+  unfolding columns
+  step-idle h u v =
+      sym (ap (λ (b : Bool). columns low high u v || (columns low high u k && b)) (has-none (getD low k 0 ∷ getD high k 0 ∷ []) refl h v)
+      ∙ ap (λ (b : Bool). columns low high u v || b) (and-false (columns low high u k)) ∙ or-false (columns low high u v))
 
-  module _ (t : List (List ℕ)) (i : ℕ) (p : Passed t₀ after t k n i) where
-    pub passed-end : n ≤ i → Inside n t₀ → (u v : ℕ) → holds t u v ≡ (holds t₀ u v || (holds t₀ u k && has after v))
-    passed-end l inside u v = by (decLt u n)
+  -- the bit of k in the words of its column
+
+  pub in-low : k < 64 → (u : ℕ) → bit (getD low u 0) k ≡ columns low high u k
+  in-low l u = sym (column-low low high u k l)
+
+  pub in-high : 64 ≤ k → k < 128 → (u : ℕ) → bit (getD high u 0) (k - 64) ≡ columns low high u k
+  in-high l m u = let e : 64 + (k - 64) ≡ k = omega arith in sym (column-high low high u (k - 64) (omega arith)) ∙ ap (columns low high u) e
+
+  module _ (test : List ℕ) (j : ℕ) (same : (u : ℕ) → bit (getD test u 0) j ≡ columns low high u k) where
+    pub step-clear : (n : ℕ) → ((u v : ℕ) → columns low high u v ≡ true → u < n) → (u : ℕ) → n ≤ u → bit (getD test u 0) j ≡ false
+    step-clear n inside u l = same u ∙ false-unless _ (λ e. omega (arith, inside u k e))
+
+    pub step-joined
+        : (low′ high′ : List ℕ) → Joins test j (getD low k 0) low low′ → Joins test j (getD high k 0) high high′ → Step low high k low′ high′
+    step-joined low′ high′ p q u =
+        job-ind (λ v. columns low′ high′ u v ≡ (columns low high u v || (columns low high u k && columns low high k v)))
+        (λ i l. column-low low′ high′ u i l ∙ p u i l ∙ sym (either (column-low low high u i l) (column-low low high k i l)))
+        (λ i l. column-high low′ high′ u i l ∙ q u i l ∙ sym (either (column-high low high u i l) (column-high low high k i l)))
+        (λ v l.
+        column-beyond low′ high′ u v l
+        ∙ sym (either (column-beyond low high u v l) (column-beyond low high k v l) ∙ and-false (bit (getD test u 0) j)))
       where
-        by : Dec (u < n) → holds t u v ≡ (holds t₀ u v || (holds t₀ u k && has after v))
-        by (yes h) = p .done u v (omega arith)
-        by (no h) =
-            let e : holds t₀ u k ≡ false = false-unless _ (λ d. h (inside u k d .0)) in
-            p .left u v (omega arith) ∙ sym (ap (λ b. holds t₀ u v || (b && has after v)) e ∙ or-false (holds t₀ u v))
+        either : {x y x′ y′ : Bool} → x ≡ x′ → y ≡ y′ → (x || (columns low high u k && y)) ≡ (x′ || (bit (getD test u 0) j && y′))
+        either {y = y} {x′ = x′} e d = ap₂ (λ (a b : Bool). a || (b && y)) e (sym (same u)) ∙ ap (λ (a : Bool). x′ || (bit (getD test u 0) j && a)) d
 
-    pub passed-next
-        : i < n → n ≤ 128 → (row : List ℕ) (test : Bool) → ((v : ℕ) → has row v ≡ (has (getD t i []) v || (test && has after v)))
-        → test ≡ has (getD t i []) k → Passed t₀ after (set t i row) k n (i + 1)
-    unfolding holds
-    passed-next l m row test h e =
-        record {
-          within = omega arith;
-          rows = length-set t i row ∙ p .rows;
-          done = λ u v d. ⊎-elim (λ (c : u ≡ i). rw c (here v)) (λ (c : u < i). there u v (λ c′. omega arith) ∙ p .done u v c) (eq-or-lt-of-le (omega arith));
-          left = λ u v d. there u v (λ c. omega arith) ∙ p .left u v (omega arith);
-        }
-      where
-        here : (v : ℕ) → holds (set t i row) i v ≡ (holds t₀ i v || (holds t₀ i k && has after v))
-        here v =
-            row-here t i row (rw (p .rows) (omega arith)) v ∙ h v
-            ∙ ap₂ (λ b c. b || c) (p .left i v (omega arith)) (ap (λ b. b && has after v) (e ∙ p .left i k (omega arith)))
+-- the runs of a relation are inside where it is
+module _ (n : ℕ) (r : Rel) (inside : (u v : ℕ) → r u v ≡ true → (u < n) × (v < n)) where
+  via-inside : (k u v : ℕ) → via r k u v ≡ true → (u < n) × (v < n)
+  via-inside = via-ind r (λ u v. (u < n) × (v < n)) inside (λ u w v p q. (p .0, q .1))
 
-        there : (u v : ℕ) → (u ≡ i → ⊥) → holds (set t i row) u v ≡ holds t u v
-        there = row-there t i row
-
--- the closure of what is inside is inside
 pub closure-inside : (n : ℕ) (t r : List (List ℕ)) (k : ℕ) → Inside n t → ((u v : ℕ) → holds r u v ≡ via (holds t) k u v) → Inside n r
-closure-inside n t r k inside h u v e =
-    via-ind (holds t) (λ u v. (u < n) × (v < n)) inside (λ u w v p q. (p .0, q .1)) k u v (sym (h u v) ∙ e)
+closure-inside n t r k inside h u v e = via-inside n (holds t) inside k u v (sym (h u v) ∙ e)
 
 -- after the passes through the jobs below k
-pub record Closed (t₀ t : List (List ℕ)) (n k : ℕ) : Type 0 where
+pub record Closed (r : Rel) (low high : List ℕ) (n k : ℕ) : Type 0 where
   pub within : k ≤ n
-  pub rows : length t ≡ 128
-  pub runs : (u v : ℕ) → holds t u v ≡ via (holds t₀) k u v
+  pub rows : (length low ≡ 128) × (length high ≡ 128)
+  pub runs : (u v : ℕ) → columns low high u v ≡ via r k u v
 
-module _ (t₀ : List (List ℕ)) (n : ℕ) where
-  pub closed-none : length t₀ ≡ 128 → Closed t₀ t₀ n 0
-  unfolding via
-  closed-none h = record { within = omega arith; rows = h; runs = λ u v. refl }
+pub closed-none : (low high : List ℕ) (n : ℕ) → (length low ≡ 128) × (length high ≡ 128) → Closed (columns low high) low high n 0
+unfolding via
+closed-none low high n h = record { within = omega arith; rows = h; runs = λ u v. refl }
 
-  module _ (t : List (List ℕ)) (k : ℕ) (p : Closed t₀ t n k) where
-    pub closed-inside : Inside n t₀ → Inside n t
-    closed-inside inside = closure-inside n t₀ t k inside (p .runs)
+module _ (r : Rel) (n : ℕ) (low high : List ℕ) (k : ℕ) (p : Closed r low high n k) where
+  pub closed-inside : ((u v : ℕ) → r u v ≡ true → (u < n) × (v < n)) → (u v : ℕ) → columns low high u v ≡ true → u < n
+  closed-inside inside u v e = via-inside n r inside k u v (sym (p .runs u v) ∙ e) .0
 
-    pub closed-next
-        : k < n → (s : List (List ℕ)) → length s ≡ 128 → ((u v : ℕ) → holds s u v ≡ (holds t u v || (holds t u k && has (getD t k []) v)))
-        → Closed t₀ s n (k + 1)
-    unfolding holds
-    closed-next l s m h =
-        let e : k + 1 ≡ suc k = add-one k in
-        record { within = omega arith; rows = m; runs = λ u v. h u v ∙ rw (e, via-step, ← p .runs u v, ← p .runs u k, ← p .runs k v) }
+  pub closed-next : k < n → (low′ high′ : List ℕ) → (length low′ ≡ 128) × (length high′ ≡ 128) → Step low high k low′ high′ → Closed r low′ high′ n (k + 1)
+  closed-next l low′ high′ m h =
+      let e : k + 1 ≡ suc k = add-one k in
+      record { within = omega arith; rows = m; runs = λ u v. h u v ∙ rw (e, via-step, ← p .runs u v, ← p .runs u k, ← p .runs k v) }
 
-    pub closed-end : n ≤ k → (u v : ℕ) → holds t u v ≡ via (holds t₀) n u v
-    closed-end l u v = let e : k ≡ n = omega arith in p .runs u v ∙ ap (λ (m : ℕ). via (holds t₀) m u v) e
+  pub closed-end : n ≤ k → (t : List (List ℕ)) → ((u v : ℕ) → r u v ≡ holds t u v) → (u v : ℕ) → columns low high u v ≡ via (holds t) n u v
+  closed-end l t same u v =
+      let e : k ≡ n = omega arith in
+      p .runs u v ∙ ap (λ (m : ℕ). via r m u v) e ∙ ap (λ q. via q n u v) (fun-ext λ x. fun-ext λ y. same x y)

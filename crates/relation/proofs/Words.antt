@@ -1,6 +1,6 @@
 -- The bits of words.
-use Prim.Native.Nat.{ℕ, zero, suc, _+_, _-_, _*_, _/_, _%_, _^_, _<_, suc-le-suc}
-use native.Mathlib.Nat.{div-one, div-eq-of-lt, pow-suc, lt-of-lt-of-le, zero-lt-suc, one-mul}
+use Prim.Native.Nat.{ℕ, zero, suc, _+_, _-_, _*_, _/_, _%_, _^_, _≤_, _<_, suc-le-suc}
+use native.Mathlib.Nat.{div-one, div-eq-of-lt, le-div-iff-mul-le, div-lt-iff-lt-mul, pow-suc, lt-of-lt-of-le, zero-lt-suc, one-mul, mul-comm}
 use native.Mathlib.Decide.{decLt}
 use native.Mathlib.Numerals.{one-add}
 use native.Mathlib.Omega.{arith}
@@ -11,7 +11,7 @@ use mathlib.Core.Logic.{_⊎_, inl, inr, ⊎-elim}
 use lib.Dec.{eqb, ltb, eqb·zero-suc, eqb·suc-zero, eqb·suc-suc}
 use lib.Bits.{bitAnd, bitOr, and-shr, or-shr, and-mod, or-mod, and-mask}
 use lib.Pow.{pow-pos, pow-mono, ones-lt, shr-shr, shl-exact}
-use lib.Count.{trailingZeros, ones, ones-step}
+use lib.Count.{trailingZeros, leadingZeros, leading-top, ones, ones-step}
 use borrow.Author.Tests.{lt-ltb, le-ltb}
 use lib.ListN.{length, length-map}
 use Rattle.poset.specs.Lists.{keep, upFrom, below}
@@ -172,6 +172,33 @@ lowest (suc k) w p h =
     rw e (suc-le-suc (r .0), lowest-even w _ e p (r .1)))
     (λ (e : w % 2 ≡ 1). rw e (zero-lt-suc k, lowest-odd w e))
     (digit-cases (w % 2) (omega arith))
+
+-- the highest bit that is set
+
+pub record Highest (w z : ℕ) : Type 0 where
+  pub set : bit w z ≡ true
+  pub clear : (i : ℕ) → z < i → bit w i ≡ false
+
+pub highest : (k w : ℕ) → 0 < w → w < 2 ^ k → (leadingZeros k w < k) × Highest w (k - 1 - leadingZeros k w)
+unfolding bit
+highest k w p h =
+    let t = leading-top k w p h in
+    let e : k - 1 - leadingZeros k w ≡ t .0 = omega (arith, t .1) in
+    (omega (arith, t .1), rw e (record { set = set; clear = λ i l. bit-beyond w i (lt-of-lt-of-le (t .3) (pow-mono l)) }))
+  where
+    j : ℕ
+    j = leading-top k w p h .0
+
+    -- the bits from the highest on are the number 1
+    one : w / 2 ^ j ≡ 1
+    one =
+        let t = leading-top k w p h in
+        let l : 1 * 2 ^ j ≤ w = rw (one-mul (2 ^ j)) (t .2) in
+        let m : w < 2 * 2 ^ j = rw (mul-comm 2 (2 ^ j), ← pow-suc 2 j) (t .3) in
+        omega (arith, le-div-iff-mul-le (pow-pos j) .1 l, div-lt-iff-lt-mul (pow-pos j) .1 m)
+
+    set : bit w j ≡ true
+    set = ap (λ (x : ℕ). eqb (x % 2) 1) one
 
 -- how many bits are set
 

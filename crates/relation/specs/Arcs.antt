@@ -1,10 +1,9 @@
 -- Arcs as code holds them: a flat list of numbers going in, bytes going out, and what a search finds among them.
 use Prim.Native.Nat.{ℕ, suc}
-use mathlib.Core.List.{List, [], _∷_, _++_, flatMap}
+use mathlib.Core.List.{List, [], _∷_, flatMap}
 use mathlib.Core.Bool.{Bool, true, false, _||_}
 use mathlib.Core.Option.{Option, none, some}
 use lib.Dec.{eqb, leb}
-use lib.ListN.{length, drop}
 use Rattle.poset.specs.Order.{Arc, Four}
 use Rattle.relation.specs.declared.Found.{Found}
 use Rattle.relation.specs.declared.Found.the-variants as found-variants

@@ -1,6 +1,5 @@
 //! Arcs as a flat list, two numbers for each: what is wrong with them, and the table that they make.
 use crate::Found;
-use crate::set;
 ghost use Prim.Native.Nat.{ℕ};
 ghost use mathlib.Core.Path.{_≡_};
 ghost use Rattle.poset.specs.Order.{Within, arc};
@@ -46,7 +45,7 @@ pub fn table_of(arcs: &[u16]) -> [[u64; 2]; 128]
     while i + 1 < arcs.len() {
         let u = arcs[i] as usize;
         let v = arcs[i + 1] as usize;
-        t[u] = set::union(t[u], set::only(v));
+        t[u][v / 64] |= 1 << (v % 64);
         i += 2;
     }
     t

@@ -12,18 +12,34 @@ ghost use Rattle.relation.specs.Table.{has, holds, members, Inside};
 ghost use Rattle.relation.specs.Arcs.{arcBytes};
 ghost use Rattle.poset.specs.Areas.{overlay};
 
-// The jobs that are after some job after u. A job that is found already has nothing to add.
-fn beyond(t: &[[u64; 2]; 128], u: usize, n: usize) -> [u64; 2]
+// The domain of a relation: the jobs whose row is not empty.
+fn domain(t: &[[u64; 2]; 128], n: usize) -> [u64; 2]
+    requires { ⌜ n ≤ 128 ⌝ }
+    requires { ⌜ Inside n (now t) ⌝ }
+    ensures { λ r. ⌜ ((w : ℕ) → has r w ≡ any (holds (now (t .entry)) w) (below 128)) ⌝ }
+{
+    let mut jobs = [0u64; 2];
+    for w in 0..n {
+        let more = set::union_if(set::inhabited(t[w]), jobs, set::only(w));
+        jobs = more;
+    }
+    jobs
+}
+
+// The jobs that are after some job after u. Nothing is added by a job outside the domain, nor by one that is found already.
+fn beyond(t: &[[u64; 2]; 128], dom: [u64; 2], u: usize, n: usize) -> [u64; 2]
     requires { ⌜ (n ≤ 128) × (u < n) ⌝ }
     requires { ⌜ Strict n (holds (now t)) ⌝ }
     requires { ⌜ Inside n (now t) ⌝ }
+    requires { ⌜ ((w : ℕ) → has dom w ≡ any (holds (now t) w) (below 128)) ⌝ }
     ensures { λ r. ⌜ ((v : ℕ) → has r v ≡ any (λ w. holds (now (t .entry)) u w && holds (now (t .entry)) w v) (below n)) ⌝ }
 {
     let mut far = [0u64; 2];
-    let mut rest = t[u];
+    let mut rest = set::intersection(t[u], dom);
     while set::inhabited(rest) {
         let w = set::smallest(rest);
-        let joined = set::union(far, t[w]);
+        let x = set::largest(rest);
+        let joined = set::union(set::union(far, t[w]), t[x]);
         let others = set::difference(set::without_smallest(rest), joined);
         far = joined;
         rest = others;
@@ -40,8 +56,9 @@ pub fn reduced(t: [[u64; 2]; 128], n: usize) -> [[u64; 2]; 128]
 {
     let none = [0u64; 2];
     let mut r = [none; 128];
+    let dom = domain(&t, n);
     for u in 0..n {
-        let far = beyond(&t, u, n);
+        let far = beyond(&t, dom, u, n);
         r[u] = set::difference(t[u], far);
     }
     r

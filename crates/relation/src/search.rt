@@ -1,73 +1,107 @@
 //! The first N of an order: jobs a, b, c, d with a before c, b before c and d, and a b, c d, a d incomparable.
+use crate::Found;
 use crate::FoundFour;
 use crate::set;
 ghost use Prim.Native.Nat.{ℕ, _<_, _≤_};
 ghost use mathlib.Core.Path.{_≡_};
-ghost use mathlib.Core.Bool.{true};
-ghost use Rattle.poset.specs.Lists.{first, below, onlyIf};
-ghost use Rattle.poset.specs.Order.{comparable, incomparable, isN, firstN};
-ghost use Rattle.relation.specs.Table.{holds, Inside};
-ghost use Rattle.relation.specs.Arcs.{foundFour};
+ghost use mathlib.Core.Bool.{true, _&&_};
+ghost use mathlib.Core.Option.{some};
+ghost use Rattle.poset.specs.Lists.{any, first, below, onlyIf};
+ghost use Rattle.poset.specs.Order.{isN, firstN};
+ghost use Rattle.relation.specs.Table.{has, holds, members, apart, Inside};
+ghost use Rattle.relation.specs.Arcs.{found, foundFour};
 
-// The table of the comparable jobs: those after a job and those before it.
-fn comparabilities(after: &[[u64; 2]; 128], under: &[[u64; 2]; 128], n: usize) -> [[u64; 2]; 128]
+// The table of the incomparable jobs: for each job those below n that are not itself, nor after it, nor before it.
+fn incomparabilities(after: &[[u64; 2]; 128], under: &[[u64; 2]; 128], n: usize) -> [[u64; 2]; 128]
     requires { ⌜ n ≤ 128 ⌝ }
-    requires { ⌜ Inside n (now after) ⌝ }
     requires { ⌜ ((u v : ℕ) → holds (now under) u v ≡ holds (now after) v u) ⌝ }
-    ensures { λ r. ⌜ ((u v : ℕ) → holds r u v ≡ comparable (holds (now (after .entry))) u v) ⌝ }
+    ensures { λ r. ⌜ ((u v : ℕ) → holds r u v ≡ apart n (holds (now (after .entry))) u v) ⌝ }
 {
+    let all = set::all_below(n);
     let none = [0u64; 2];
     let mut r = [none; 128];
     for u in 0..n {
-        r[u] = set::union(after[u], under[u]);
+        let near = set::union(set::only(u), set::union(after[u], under[u]));
+        r[u] = set::difference(all, near);
     }
     r
+}
+
+// The smallest job of cs whose row has a job of ds.
+fn first_meeting(t: &[[u64; 2]; 128], cs: [u64; 2], ds: [u64; 2]) -> Found
+    ensures { λ r. ⌜ found r ≡ first (λ c. onlyIf (any (λ d. has ds d && holds (now (t .entry)) c d) (below 128)) c) (members cs) ⌝ }
+{
+    let mut rest = cs;
+    while set::inhabited(rest) {
+        let c = set::smallest(rest);
+        if set::inhabited(set::intersection(ds, t[c])) {
+            return Found::At(c);
+        }
+        let others = set::without_smallest(rest);
+        rest = others;
+    }
+    Found::Nothing
+}
+
+// As first_meeting, one word of cs after the other, which is quicker: the other word is known to be 0.
+fn first_by_words(t: &[[u64; 2]; 128], cs: [u64; 2], ds: [u64; 2]) -> Found
+    ensures { λ r. ⌜ found r ≡ first (λ c. onlyIf (any (λ d. has ds d && holds (now (t .entry)) c d) (below 128)) c) (members cs) ⌝ }
+{
+    let found = first_meeting(t, set::low(cs), ds);
+    let Found::Nothing = found else {
+        return found;
+    };
+    first_meeting(t, set::high(cs), ds)
+}
+
+// The jobs a, b, c and the smallest of a set, if there is one.
+fn with_smallest(a: usize, b: usize, c: usize, s: [u64; 2]) -> FoundFour
+    ensures { λ r. ⌜ foundFour r ≡ first (λ d. some (a, b, c, d)) (members s) ⌝ }
+{
+    if !set::inhabited(s) {
+        return FoundFour::Nothing;
+    }
+    FoundFour::At(a, b, c, set::smallest(s))
 }
 
 // The first N with a and b: its c is among cs, which both are before, and its d among ds, which are after b and incomparable to a.
 fn first_with_b(
     after: &[[u64; 2]; 128],
-    near: &[[u64; 2]; 128],
+    free: &[[u64; 2]; 128],
     n: usize,
     a: usize,
     b: usize,
 ) -> FoundFour
-    requires { ⌜ (n ≤ 128) × (a < n) × (b < n) × (incomparable (holds (now after)) a b ≡ true) ⌝ }
+    requires { ⌜ (n ≤ 128) × (apart n (holds (now after)) a b ≡ true) ⌝ }
     requires { ⌜ Inside n (now after) ⌝ }
-    requires { ⌜ ((u v : ℕ) → holds (now near) u v ≡ comparable (holds (now after)) u v) ⌝ }
+    requires { ⌜ ((u v : ℕ) → holds (now free) u v ≡ apart n (holds (now after)) u v) ⌝ }
     ensures { λ r. ⌜ foundFour r
         ≡ first (λ c. first (λ d. onlyIf (isN (holds (now (after .entry))) a b c d) (a, b, c, d)) (below n)) (below n) ⌝ }
 {
-    let ds = set::difference(after[b], near[a]);
+    let ds = set::intersection(after[b], free[a]);
+    let cs = set::intersection(after[a], after[b]);
     if !set::inhabited(ds) {
         return FoundFour::Nothing;
     }
-    let mut cs = set::intersection(after[a], after[b]);
-    while set::inhabited(cs) {
-        let c = set::smallest(cs);
-        let free = set::difference(ds, near[c]);
-        if set::inhabited(free) {
-            return FoundFour::At(a, b, c, set::smallest(free));
-        }
-        let others = set::without_smallest(cs);
-        cs = others;
+    let found = first_by_words(free, cs, ds);
+    match found {
+        Found::At(c) => with_smallest(a, b, c, set::intersection(ds, free[c])),
+        Found::Nothing => FoundFour::Nothing,
     }
-    FoundFour::Nothing
 }
 
 // The first N with a: its b is incomparable to a.
-fn first_with_a(after: &[[u64; 2]; 128], near: &[[u64; 2]; 128], n: usize, a: usize) -> FoundFour
+fn first_with_a(after: &[[u64; 2]; 128], free: &[[u64; 2]; 128], n: usize, a: usize) -> FoundFour
     requires { ⌜ (n ≤ 128) × (a < n) ⌝ }
     requires { ⌜ Inside n (now after) ⌝ }
-    requires { ⌜ ((u v : ℕ) → holds (now near) u v ≡ comparable (holds (now after)) u v) ⌝ }
+    requires { ⌜ ((u v : ℕ) → holds (now free) u v ≡ apart n (holds (now after)) u v) ⌝ }
     ensures { λ r. ⌜ foundFour r
         ≡ first (λ b. first (λ c. first (λ d. onlyIf (isN (holds (now (after .entry))) a b c d) (a, b, c, d)) (below n)) (below n)) (below n) ⌝ }
 {
-    let rest = set::difference(set::all_below(n), set::only(a));
-    let mut bs = set::difference(rest, near[a]);
+    let mut bs = free[a];
     while set::inhabited(bs) {
         let b = set::smallest(bs);
-        let found = first_with_b(after, near, n, a, b);
+        let found = first_with_b(after, free, n, a, b);
         let FoundFour::Nothing = found else {
             return found;
         };
@@ -84,9 +118,9 @@ pub fn first_n(after: &[[u64; 2]; 128], under: &[[u64; 2]; 128], n: usize) -> Fo
     requires { ⌜ ((u v : ℕ) → holds (now under) u v ≡ holds (now after) v u) ⌝ }
     ensures { λ r. ⌜ foundFour r ≡ firstN n (holds (now (after .entry))) ⌝ }
 {
-    let near = comparabilities(after, under, n);
+    let free = incomparabilities(after, under, n);
     for a in 0..n {
-        let found = first_with_a(after, &near, n, a);
+        let found = first_with_a(after, &free, n, a);
         let FoundFour::Nothing = found else {
             return found;
         };

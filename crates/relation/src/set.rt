@@ -5,7 +5,7 @@ ghost use mathlib.Core.Bool.{true, _&&_, _||_, not};
 ghost use lib.Dec.{eqb, ltb};
 ghost use lib.ListN.{length};
 ghost use Rattle.poset.specs.Lists.{any, below};
-ghost use Rattle.relation.specs.Table.{has, members, Least};
+ghost use Rattle.relation.specs.Table.{bit, has, members, Least, Greatest};
 
 pub fn contains(s: [u64; 2], v: usize) -> bool
     requires { ⌜ v < 128 ⌝ }
@@ -21,12 +21,19 @@ pub fn union(a: [u64; 2], b: [u64; 2]) -> [u64; 2]
     [a[0] | b[0], a[1] | b[1]]
 }
 
-// The union where the test holds, and the first set where not. There is no branch: the mask is all ones or 0.
+// All ones where the test holds, and 0 where not: what is done under a mask needs no branch.
+pub fn mask(test: bool) -> u64
+    ensures { λ r. ⌜ ((i : ℕ) → i < 64 → bit r i ≡ test) ⌝ }
+{
+    if test { 0xffff_ffff_ffff_ffff } else { 0 }
+}
+
+// The union where the test holds, and the first set where not.
 pub fn union_if(test: bool, a: [u64; 2], b: [u64; 2]) -> [u64; 2]
     ensures { λ r. ⌜ ((v : ℕ) → has r v ≡ (has a v || (test && has b v))) ⌝ }
 {
-    let mask: u64 = if test { 0xffff_ffff_ffff_ffff } else { 0 };
-    [a[0] | b[0] & mask, a[1] | b[1] & mask]
+    let m = mask(test);
+    [a[0] | b[0] & m, a[1] | b[1] & m]
 }
 
 pub fn intersection(a: [u64; 2], b: [u64; 2]) -> [u64; 2]
@@ -66,6 +73,20 @@ pub fn all_below(n: usize) -> [u64; 2]
     }
 }
 
+// The members below 64.
+pub fn low(s: [u64; 2]) -> [u64; 2]
+    ensures { λ r. ⌜ ((v : ℕ) → has r v ≡ (has s v && ltb v 64)) ⌝ }
+{
+    [s[0], 0]
+}
+
+// The members from 64 on.
+pub fn high(s: [u64; 2]) -> [u64; 2]
+    ensures { λ r. ⌜ ((v : ℕ) → has r v ≡ (has s v && not (ltb v 64))) ⌝ }
+{
+    [0, s[1]]
+}
+
 // Whether there is a member.
 pub fn inhabited(s: [u64; 2]) -> bool
     ensures { λ r. ⌜ r ≡ any (has s) (below 128) ⌝ }
@@ -81,6 +102,17 @@ pub fn smallest(s: [u64; 2]) -> usize
         u64::trailing_zeros(s[0]) as usize
     } else {
         64 + u64::trailing_zeros(s[1]) as usize
+    }
+}
+
+pub fn largest(s: [u64; 2]) -> usize
+    requires { ⌜ any (has s) (below 128) ≡ true ⌝ }
+    ensures { λ r. ⌜ Greatest s r ⌝ }
+{
+    if s[1] != 0 {
+        127 - u64::leading_zeros(s[1]) as usize
+    } else {
+        63 - u64::leading_zeros(s[0]) as usize
     }
 }
 

@@ -8,14 +8,14 @@ use relation::search;
 ghost use Prim.Native.Nat.{_≤_};
 ghost use mathlib.Core.Path.{_≡_};
 ghost use lib.ListN.{length};
-ghost use Rattle.poset.specs.Order.{Within, before};
+ghost use Rattle.poset.specs.Order.{Within, before, firstN};
 ghost use Rattle.poset.specs.Areas.{overlay};
 ghost use Rattle.relation.specs.Table.{holds, Inside};
 ghost use Rattle.relation.specs.Arcs.{pairs, arcBytes};
-ghost use Rattle.relation_bench.specs.Steps.{fits, acyclic, reducedArcs, packedN};
+ghost use Rattle.relation_bench.specs.Steps.{fits, acyclic, reducedArcs, packed, packedN};
 
 // Whether there are at most 128 jobs and the arcs name them alone.
-fn fits(arcs: &[u16], n: u16) -> bool
+pub fn fits(arcs: &[u16], n: u16) -> bool
     ensures { λ r. ⌜ r ≡ fits n (pairs (now (arcs .entry))) ⌝ }
 {
     let found = arcs::first_outside(arcs, n);
@@ -26,7 +26,7 @@ fn fits(arcs: &[u16], n: u16) -> bool
 }
 
 // The closure of the arcs.
-fn closed(arcs: &[u16], n: usize) -> [[u64; 2]; 128]
+pub fn closed(arcs: &[u16], n: usize) -> [[u64; 2]; 128]
     requires { ⌜ n ≤ 128 ⌝ }
     requires { ⌜ Within n (pairs (now arcs)) ⌝ }
     ensures { λ r. ⌜ holds r ≡ before n (pairs (now (arcs .entry))) ⌝ }
@@ -36,7 +36,7 @@ fn closed(arcs: &[u16], n: usize) -> [[u64; 2]; 128]
 }
 
 // Whether no job is before itself.
-fn acyclic(after: &[[u64; 2]; 128], n: usize) -> bool
+pub fn acyclic(after: &[[u64; 2]; 128], n: usize) -> bool
     requires { ⌜ n ≤ 128 ⌝ }
     ensures { λ r. ⌜ r ≡ acyclic n (holds (now (after .entry))) ⌝ }
 {
@@ -71,7 +71,23 @@ pub extern "C" fn bench_reduce(arcs: &[u16], n: u16, area: &mut [u8]) -> usize
     count
 }
 
-// The first N: its jobs, a byte each from the lowest, or 2^32 where there is none.
+// The first N of a closure: its jobs, a byte each from the lowest, or 2^32 where there is none.
+fn searched(after: &[[u64; 2]; 128], n: usize) -> u64
+    requires { ⌜ n ≤ 128 ⌝ }
+    requires { ⌜ Inside n (now after) ⌝ }
+    ensures { λ r. ⌜ r ≡ packed (firstN n (holds (now (after .entry)))) ⌝ }
+{
+    let under = order::transposed(*after, n);
+    let found = search::first_n(after, &under, n);
+    match found {
+        FoundFour::At(a, b, c, d) => {
+            (a % 256 + 256 * (b % 256) + 65536 * (c % 256) + 16777216 * (d % 256)) as u64
+        }
+        FoundFour::Nothing => 0x1_0000_0000,
+    }
+}
+
+// The first N of arcs.
 #[no_mangle]
 pub extern "C" fn bench_first_n(arcs: &[u16], n: u16) -> u64
     ensures { λ r. ⌜ r ≡ packedN n (pairs (now (arcs .entry))) ⌝ }
@@ -79,14 +95,6 @@ pub extern "C" fn bench_first_n(arcs: &[u16], n: u16) -> u64
     if !fits(arcs, n) {
         return 0x1_0000_0000;
     }
-    let jobs = n as usize;
-    let after = closed(arcs, jobs);
-    let under = order::transposed(after, jobs);
-    let found = search::first_n(&after, &under, jobs);
-    match found {
-        FoundFour::At(a, b, c, d) => {
-            (a % 256 + 256 * (b % 256) + 65536 * (c % 256) + 16777216 * (d % 256)) as u64
-        }
-        FoundFour::Nothing => 0x1_0000_0000,
-    }
+    let after = closed(arcs, n as usize);
+    searched(&after, n as usize)
 }

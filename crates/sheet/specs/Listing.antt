@@ -2,7 +2,7 @@
 use Prim.Native.Nat.{ℕ, _/_}
 use mathlib.Core.Path.{_≡_}
 use mathlib.Core.List.{List, [], _∷_, _++_}
-use lib.ListN.{length, take, drop}
+use lib.ListN.{length, take}
 use Rattle.poset.specs.Areas.{overlay}
 use Rattle.poset.specs.Order.{Arc}
 use Rattle.sheet.specs.Scan.{Read, sheet, broken}

@@ -10,7 +10,7 @@ use Rattle.poset.specs.Lists.{any, below}
 use Rattle.poset.specs.Order.{Rel}
 use Rattle.poset.proofs.Laws.{decided, clash, false-unless, and-left, and-right, and-intro}
 use Rattle.poset.proofs.Sums.{bit}
-use Rattle.relation.specs.Table.{has, members, Least}
+use Rattle.relation.specs.Table.{has, members, Greatest}
 use Rattle.writer.specs.Parts.{Jobs, Partial, First}
 use Rattle.writer.proofs.Counting.{set-falls}
 use Rattle.writer.proofs.Searching.{empty}
@@ -25,15 +25,15 @@ module _ (under : Rel) (s : List ℕ) (x : ℕ) (ahead : List ℕ) (d : Down und
   ahead-in : (v : ℕ) → has ahead v ≡ true → has s v ≡ true
   ahead-in v p = and-right (under x v) (has s v) (sym (d .before v) ∙ p)
 
-  pub down-next : (y : ℕ) (fewer : List ℕ) → Least ahead y → ((v : ℕ) → has fewer v ≡ (under y v && has s v)) → Down under s y fewer
-  down-next y fewer least f = record { small = least .small; member = ahead-in y (least .member); before = f }
+  pub down-next : (y : ℕ) (fewer : List ℕ) → Greatest ahead y → ((v : ℕ) → has fewer v ≡ (under y v && has s v)) → Down under s y fewer
+  down-next y fewer last f = record { small = last .small; member = ahead-in y (last .member); before = f }
 
-  pub down-falls : (y : ℕ) (fewer : List ℕ) → Partial under → Least ahead y → ((v : ℕ) → has fewer v ≡ (under y v && has s v))
+  pub down-falls : (y : ℕ) (fewer : List ℕ) → Partial under → Greatest ahead y → ((v : ℕ) → has fewer v ≡ (under y v && has s v))
       → length (members fewer) < length (members ahead)
-  down-falls y fewer order least f = set-falls ahead fewer y (least .small) (least .member) gone within
+  down-falls y fewer order last f = set-falls ahead fewer y (last .small) (last .member) gone within
     where
       xy : under x y ≡ true
-      xy = and-left (under x y) (has s y) (sym (d .before y) ∙ least .member)
+      xy = and-left (under x y) (has s y) (sym (d .before y) ∙ last .member)
 
       gone : has fewer y ≡ false
       gone = false-unless (has fewer y) (λ p. clash (and-left (under y y) (has s y) (sym (f y) ∙ p)) (order .irreflexive y))

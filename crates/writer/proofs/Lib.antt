@@ -9,6 +9,7 @@ pub mod Counting
 pub mod Firsts
 pub mod Splitting
 pub mod Groups
+pub mod Leads
 pub mod Stacking
 pub mod Rows
 pub mod Entries

@@ -69,6 +69,7 @@ start n fields low high =
         few = omega arith;
         small = omega arith;
         low = below-nil;
+        blank = refl;
         these = append-nil (bits 7 (n - 1));
       };
     }

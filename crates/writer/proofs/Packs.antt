@@ -5,18 +5,18 @@ use mathlib.Core.List.{List, [], _∷_, _++_, append-assoc, append-nil}
 use native.Mathlib.Nat.{mod-lt, mod-eq-of-lt, add-comm, add-zero, one-mul}
 use native.Mathlib.Numerals.{add-one}
 use native.Mathlib.Omega.{arith}
-use lib.ListN.{length, take, set, replicate, length-set}
+use lib.ListN.{length, take, drop, set, replicate, length-set}
 use lib.Pow.{pow-pos, pow-mono, pow-add, shl-lt, shr-lt, split, shl-exact}
-use lib.Seq.{take-suc-set}
-use Rattle.record.specs.Bits.{bits, bitsOf}
+use Rattle.record.specs.Bits.{bits, bitsOf, bytesOf}
 use Rattle.record.proofs.Fields.{bits-append, bits-snoc, bits-below}
-use Rattle.record.proofs.Bytes.{bits-zero, bitsOf-below, bytes-filled, filled-unique}
+use Rattle.record.proofs.Bytes.{Filled, bits-zero, bitsOf-below, bytes-filled, filled-unique}
 use Rattle.record.proofs.Below.{below-nil, below-cons, below-append}
 use Rattle.writer.specs.declared.pack.Packing.{Packing}
 use lib.Dec.{ltb}
 use Rattle.poset.proofs.Laws.{lt-true, ltb-true, false-unless}
 use Rattle.record.specs.Bits.{AllBelow}
 use Rattle.writer.specs.Packing.{Holds, Ends, fieldBits}
+use Rattle.writer.proofs.Stores.{stored, blank-next, whole-list}
 
 pub bitsOf-append : (xs ys : List ℕ) → bitsOf (xs ++ ys) ≡ bitsOf xs ++ bitsOf ys
 unfolding bitsOf
@@ -52,16 +52,15 @@ module _ (have value field : ℕ) (few : have < 8) (small : value < 2 ^ have) (b
       ∙ ap (λ b. bits 8 b ++ bits have (whole % 2 ^ have)) (sym high)
 
 -- a byte is stored after the whole bytes
-pub stored : (bytes : List ℕ) (at b : ℕ) → at < length bytes → bitsOf (take (at + 1) (set bytes at b)) ≡ bitsOf (take at bytes) ++ bits 8 b
-stored bytes at b h =
-    ap (λ k. bitsOf (take k (set bytes at b))) (add-one at)
-    ∙ ap bitsOf (take-suc-set bytes at b h)
+pub bits-stored : (bytes : List ℕ) (at b : ℕ) → at < length bytes → bitsOf (take (at + 1) (set bytes at b)) ≡ bitsOf (take at bytes) ++ bits 8 b
+bits-stored bytes at b h =
+    ap bitsOf (stored bytes at b h)
     ∙ bitsOf-append (take at bytes) (b ∷ [])
     ∙ ap (λ l. bitsOf (take at bytes) ++ l) (bitsOf-one b)
 
 stored-low : (bytes : List ℕ) (at b : ℕ) → at < length bytes → b < 256 → AllBelow 256 (take at bytes) → AllBelow 256 (take (at + 1) (set bytes at b))
 stored-low bytes at b h small low =
-    subst (AllBelow 256) (sym (ap (λ k. take k (set bytes at b)) (add-one at) ∙ take-suc-set bytes at b h)) (below-append low (below-cons small below-nil))
+    subst (AllBelow 256) (sym (stored bytes at b h)) (below-append low (below-cons small below-nil))
 
 pub put-byte : (bs bytes : List ℕ) (at have value field : ℕ) → have < 8 → value < 2 ^ have → field < 256 → at < length bytes
     → bs ≡ bitsOf (take at bytes) ++ bits have value
@@ -73,7 +72,7 @@ put-byte bs bytes at have value field few small byte room e =
     ∙ append-assoc (bitsOf (take at bytes)) (bits have value) (bits 8 field)
     ∙ ap (λ l. bitsOf (take at bytes) ++ l) (byte-more have value field few small byte)
     ∙ sym (append-assoc (bitsOf (take at bytes)) (bits 8 (whole / 2 ^ have % 256)) (bits have (whole % 2 ^ have)))
-    ∙ ap (λ l. l ++ bits have (whole % 2 ^ have)) (sym (stored bytes at (whole / 2 ^ have % 256) room))
+    ∙ ap (λ l. l ++ bits have (whole % 2 ^ have)) (sym (bits-stored bytes at (whole / 2 ^ have % 256) room))
 
 -- the same of what a packing holds
 pub holds-byte : (bs bytes : List ℕ) (p : Packing) (field : ℕ) → field < 256 → p .at < 272 → Holds bs bytes p
@@ -89,6 +88,7 @@ holds-byte bs bytes p field byte room h =
       few = h .few;
       small = rw (← e) (mod-lt whole (pow-pos (p .have)));
       low = stored-low bytes (p .at) _ (omega (arith, h .size)) (mod-lt (whole / 2 ^ p .have) (omega arith)) (h .low);
+      blank = blank-next bytes (p .at) _ 272 room (h .blank);
       these =
           put-byte bs bytes (p .at) (p .have) (p .value) field (h .few) (h .small) byte (omega arith) (h .these)
           ∙ ap
@@ -110,12 +110,13 @@ holds-full bs bytes p room e h =
       few = omega arith;
       small = omega arith;
       low = stored-low bytes (p .at) _ (omega (arith, h .size)) (mod-lt value (omega arith)) (h .low);
+      blank = blank-next bytes (p .at) _ 272 room (h .blank);
       these =
           ap (λ l. l ++ 1 ∷ []) (h .these ∙ ap (λ k. bitsOf (take (p .at) bytes) ++ bits k (p .value)) e)
           ∙ append-assoc (bitsOf (take (p .at) bytes)) (bits 7 (p .value)) (1 ∷ [])
           ∙ ap (λ l. bitsOf (take (p .at) bytes) ++ l) (sym (bits-snoc 7 (p .value) 1 (omega arith)))
           ∙ ap (λ v. bitsOf (take (p .at) bytes) ++ bits 8 v) (sym low)
-          ∙ sym (stored bytes (p .at) (value % 256) (omega (arith, h .size)))
+          ∙ sym (bits-stored bytes (p .at) (value % 256) (omega (arith, h .size)))
           ∙ sym (append-nil (bitsOf (take (p .at + 1) (set bytes (p .at) (value % 256)))));
     }
 
@@ -132,6 +133,7 @@ holds-more bs bytes p e h =
       few = omega (arith, h .few);
       small = more-small (p .have) (p .value) (h .small);
       low = h .low;
+      blank = h .blank;
       these =
           ap (λ l. l ++ 1 ∷ []) (h .these)
           ∙ append-assoc (bitsOf (take (p .at) bytes)) (bits (p .have) (p .value)) (1 ∷ [])
@@ -154,26 +156,28 @@ held-below : (bs bytes : List ℕ) (p : Packing) → Holds bs bytes p → AllBel
 held-below bs bytes p h =
     subst (AllBelow 2) (sym (h .these)) (below-append (bitsOf-below (take (p .at) bytes)) (bits-below (p .have) (p .value)))
 
+-- the whole bytes, filled with zeros
+ends : (bs bytes : List ℕ) (count : ℕ) → length bytes ≡ 272 → count ≤ 272 → Filled bs (take count bytes) → AllBelow 2 bs
+    → drop count bytes ≡ replicate (272 - count) 0 → Ends bs bytes count
+ends bs bytes count size few fill low blank =
+    let (number, these) = whole-list bytes (bytesOf bs) count 272 (omega arith) (filled-unique fill (bytes-filled bs low)) blank in
+    record { number = number; these = these }
+
 pub holds-none : (bs bytes : List ℕ) (p : Packing) → p .have ≡ 0 → Holds bs bytes p → Ends bs bytes (p .at)
 unfolding bits
 holds-none bs bytes p e h =
-    record {
-      size = h .size;
-      few = h .whole;
-      these =
-          filled-unique
-          (record {
-            fill = 0;
-            few = omega arith;
-            same =
-                sym (append-nil (bitsOf (take (p .at) bytes)))
-                ∙ ap (λ k. bitsOf (take (p .at) bytes) ++ bits k (p .value)) (sym e)
-                ∙ sym (h .these)
-                ∙ sym (append-nil bs);
-            small = h .low;
-          })
-          (bytes-filled bs (held-below bs bytes p h));
-    }
+    ends bs bytes (p .at) (h .size) (h .whole)
+    (record {
+      fill = 0;
+      few = omega arith;
+      same =
+          sym (append-nil (bitsOf (take (p .at) bytes)))
+          ∙ ap (λ k. bitsOf (take (p .at) bytes) ++ bits k (p .value)) (sym e)
+          ∙ sym (h .these)
+          ∙ sym (append-nil bs);
+      small = h .low;
+    })
+    (held-below bs bytes p h) (h .blank)
 
 last-byte : (have value : ℕ) → have < 8 → value < 2 ^ have → value * 2 ^ (8 - have) % 2 ^ 64 % 256 ≡ value * 2 ^ (8 - have)
 last-byte have value few small =
@@ -193,20 +197,15 @@ holds-last bs bytes p room e h =
     ∙ ap (λ k. bits k (p .value * 2 ^ free + 0)) (sym eight)
     ∙ bits-append (p .have) free (p .value) 0 (pow-pos free)
     ∙ ap (λ l. bits (p .have) (p .value) ++ l) (bits-zero free) in
-    record {
-      size = length-set bytes (p .at) b ∙ h .size;
+    ends bs (set bytes (p .at) b) (p .at + 1) (length-set bytes (p .at) b ∙ h .size) (omega arith)
+    (record {
+      fill = free;
       few = omega arith;
-      these =
-          filled-unique
-          (record {
-            fill = free;
-            few = omega arith;
-            same =
-                stored bytes (p .at) b (omega (arith, h .size))
-                ∙ ap (λ l. bitsOf (take (p .at) bytes) ++ l) spelt
-                ∙ sym (append-assoc (bitsOf (take (p .at) bytes)) (bits (p .have) (p .value)) (replicate free 0))
-                ∙ ap (λ l. l ++ replicate free 0) (sym (h .these));
-            small = stored-low bytes (p .at) b (omega (arith, h .size)) (mod-lt _ (omega arith)) (h .low);
-          })
-          (bytes-filled bs (held-below bs bytes p h));
-    }
+      same =
+          bits-stored bytes (p .at) b (omega (arith, h .size))
+          ∙ ap (λ l. bitsOf (take (p .at) bytes) ++ l) spelt
+          ∙ sym (append-assoc (bitsOf (take (p .at) bytes)) (bits (p .have) (p .value)) (replicate free 0))
+          ∙ ap (λ l. l ++ replicate free 0) (sym (h .these));
+      small = stored-low bytes (p .at) b (omega (arith, h .size)) (mod-lt _ (omega arith)) (h .low);
+    })
+    (held-below bs bytes p h) (blank-next bytes (p .at) b 272 room (h .blank))

@@ -8,7 +8,7 @@ use native.Mathlib.Omega.{arith}
 use lib.Dec.{eqb, ltb}
 use lib.ListN.{length, take}
 use lib.Seq.{length-take-le}
-use Rattle.poset.specs.Lists.{any, below, keep, upFrom}
+use Rattle.poset.specs.Lists.{below, keep, upFrom}
 use Rattle.poset.specs.Order.{Rel, Strict, HasN, comparable, incomparable}
 use Rattle.poset.specs.Tree.{Kind, series, parallel}
 use Rattle.poset.proofs.Laws.{decided, clash, and-left, and-right, and-intro, not-true, not-false, false-unless}
@@ -19,11 +19,11 @@ use Rattle.poset.proofs.Standing.{near, near-sym, near-either}
 use Rattle.poset.proofs.Linked.{Linked}
 use Rattle.poset.proofs.Components.{Of, OfBlocks, Sorted}
 use Rattle.poset.proofs.Connected.{connected-n}
-use Rattle.relation.specs.Table.{has, members, Least}
-use Rattle.writer.specs.Parts.{Path, start, next, Jobs, Partial, PartOf, Splits, Cut, closeOf}
+use Rattle.relation.specs.Table.{has, members}
+use Rattle.writer.specs.Parts.{Path, start, next, Partial, PartOf, Splits, Cut, closeOf}
 use Rattle.writer.specs.Stack.{Entry, jobsOf}
-use Rattle.writer.proofs.Searching.{path-within, empty}
-use Rattle.writer.proofs.Groups.{kindOf, Alike, joined-linked, members-sorted, of-members, members-of}
+use Rattle.writer.proofs.Searching.{path-within}
+use Rattle.writer.proofs.Groups.{kindOf, Alike, joined-linked, members-sorted, of-members}
 use Rattle.writer.proofs.Entries.{JoinedBy, EntryOk, none-jobs, splits-jobs}
 
 -- one part only: the set is joined
@@ -198,22 +198,6 @@ under-partial n r under strict inside turned =
           turned u w ∙ strict .transitive w v u (inside w v b .0) (inside w v b .1) (inside v u a .1) b a;
     }
 
--- the only job of a set of one
-pub single : (s : List ℕ) (j : ℕ) → Least s j → length (members s) ≡ 1 → members s ≡ j ∷ []
-single s j l one = go (members s) refl
-  where
-    at : Of (members s) j
-    at = members-of s j (l .small) (l .member)
-
-    go : (xs : List ℕ) → members s ≡ xs → members s ≡ j ∷ []
-    go [] e = absurd (omega (arith, ap length e))
-    go (x ∷ []) e = e ∙ ap (λ y. y ∷ []) (head-is (subst (λ l. Of l j) e at))
-      where
-        head-is : {x : ℕ} → List·Memᴰ j (x ∷ []) → x ≡ j
-        head-is (List·Memᴰ·head e) = sym e
-        head-is (List·Memᴰ·tail m) = elim m [ ]
-    go (x ∷ y ∷ ys) e = absurd (omega (arith, one, ap length e))
-
 -- an order as the tables that the loop reads
 pub record Tables (n : ℕ) (r under tied free : Rel) : Type 0 where
   pub few : n ≤ 128
@@ -236,7 +220,3 @@ tables n r under tied free few strict inside turned t f =
       tied-is = same;
       free-is = free-alike n r tied free same f;
     }
-
-pub some-any : (s : List ℕ) → Jobs s → 0 < length (members s) → any (has s) (below 128) ≡ true
-some-any s jobs some =
-    ⊎-elim (λ h. h) (λ h. absurd (omega (arith, none-jobs s (empty s jobs h)))) (decided (any (has s) (below 128)))

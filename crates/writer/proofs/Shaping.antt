@@ -1,92 +1,82 @@
 -- The loop that writes a tree: what holds at each turn, and at its ends.
 use Prim.Native.Nat.{ℕ, zero, suc, _+_, _-_, _≤_, _<_}
-use mathlib.Core.Path.{_≡_, refl, sym, ap, ap₂, subst, _∙_}
-use mathlib.Core.List.{List, [], _∷_, _++_, map, append-assoc}
-use mathlib.Core.Bool.{Bool, true, false, not}
+use mathlib.Core.Path.{_≡_, refl, sym, ap, subst, _∙_}
+use mathlib.Core.List.{List, [], _∷_, _++_, map}
+use mathlib.Core.Bool.{Bool, true, false}
 use mathlib.Core.Option.{none, some}
 use mathlib.Core.Logic.{⊎-elim}
 use native.Mathlib.Numerals.{add-one}
 use native.Mathlib.Omega.{arith}
-use lib.ListN.{length, length-map, take, drop, getD, set, replicate, length-set, length-append, length-replicate, take-append-drop}
-use lib.Seq.{length-take-le, take-suc-set, drop-set-lt, drop-drop, take-length}
+use lib.ListN.{length, length-map, take, drop, getD, set, replicate, length-set, length-replicate}
+use lib.Seq.{drop-set-lt}
 use Rattle.poset.specs.Lists.{below}
 use Rattle.poset.specs.Order.{Rel, Strict, HasN}
-use Rattle.poset.specs.Tree.{Tree, leaves, reversed, groups}
+use Rattle.poset.specs.Tree.{leaves, reversed, groups}
 use Rattle.poset.specs.Decompose.{treeOf}
-use Rattle.poset.proofs.Laws.{found-or-none, found-clash}
+use Rattle.poset.proofs.Laws.{found-or-none}
 use Rattle.poset.proofs.Sums.{length-below}
 use Rattle.poset.proofs.Telling.{tells-means}
 use Rattle.poset.proofs.Theorems.{tree-of-means, tree-of-sound, tree-has-no-n}
-use Rattle.relation.specs.Table.{has, members, Least}
+use Rattle.relation.specs.Table.{has, members}
 use Rattle.writer.specs.declared.tree.Progress.{Progress}
 use Rattle.writer.specs.Parts.{Splits, Cut, closeOf}
-use Rattle.writer.specs.Stack.{Entry, Stacks, entries, jobsOf, spreadOut, groupField}
-use Rattle.writer.specs.Tokens.{groupToken, tokens}
-use Rattle.poset.specs.Areas.{padded}
-use Rattle.writer.proofs.Worklist.{Pending, Todo, spread, todo-leaf, todo-group, todo-none, todo-all, GroupOf}
+use Rattle.writer.specs.Stack.{Entry, Stacks, entries, entryAt, jobsOf, spreadOut, opened, Opens, lead, setsOf, Apart, groupField}
+use Rattle.writer.specs.Tokens.{groupToken, tokens, shape, shaped}
+use Rattle.writer.proofs.Stores.{stored, blank-stored, whole-list}
+use Rattle.writer.proofs.Worklist.{Todo, spread, todo-leaf, todo-group, todo-none, todo-all, GroupOf}
 use Rattle.writer.proofs.Groups.{kindOf, Alike, splits-group}
-use Rattle.writer.proofs.Roots.{cut-count}
-use Rattle.writer.proofs.Entries.{EntryOk, Every, sets, every-append, jobs-append, jobs-spread, entries-few, toPending, pend}
-use Rattle.writer.proofs.Entries.{pend-append, pend-spread, field-token, splits-jobs, splits-every}
+use Rattle.writer.proofs.Leads.{sets-append, sets-spread}
+use Rattle.writer.proofs.Stacking.{entry-same}
+use Rattle.writer.proofs.Roots.{cut-count, cut-jobs}
+use Rattle.writer.proofs.Entries.{EntryOk, Every, every-append, jobs-append, jobs-spread, entries-few, toPending, pend}
+use Rattle.writer.proofs.Entries.{pend-append, pend-spread, field-token, splits-jobs, splits-apart, splits-every}
 
 -- the arrays that are written
 pub record Arrays : Type 0 where
   pub stack : List (List ℕ)
-  pub starts : List ℕ
+  pub numbers : List ℕ
   pub kinds : List Bool
   pub fields : List ℕ
   pub forward : List ℕ
   pub reverse : List ℕ
 
 abbrev pub entriesOf : Arrays → Progress → List Entry
-entriesOf a p = entries (a .stack) (a .starts) (a .kinds) (p .height)
+entriesOf a p = entries (a .stack) (a .numbers) (a .kinds) (p .height)
 
 pub record Shaping (n : ℕ) (r tied free : Rel) (a : Arrays) (p : Progress) : Type 0 where
-  pub stacks : Stacks (a .stack) (a .starts) (a .kinds)
+  pub stacks : Stacks (a .stack) (a .numbers) (a .kinds)
   pub fields-size : length (a .fields) ≡ 256
   pub forward-size : length (a .forward) ≡ 128
   pub reverse-size : length (a .reverse) ≡ 128
   pub every : Every n tied free (entriesOf a p)
-  pub whole : p .placed + jobsOf (sets (entriesOf a p)) ≡ n
+  pub apart : Apart (setsOf (entriesOf a p))
+  pub whole : p .placed + jobsOf (setsOf (entriesOf a p)) ≡ n
   pub groups-few : p .groups + 1 ≤ p .placed + p .height
   pub count-is : p .count ≡ p .placed + p .groups
+  pub fields-blank : drop (p .count) (a .fields) ≡ replicate (256 - p .count) 0
   pub forward-blank : drop (p .placed) (a .forward) ≡ replicate (128 - p .placed) 0
   pub reverse-blank : drop n (a .reverse) ≡ replicate (128 - n) 0
   pub todo : Todo n r (take (p .count) (a .fields)) (take (p .placed) (a .forward)) (a .reverse) (p .groups) (pend (entriesOf a p))
 
 -- an entry has a job at least
 pub height-few : (n : ℕ) (r tied free : Rel) (a : Arrays) (p : Progress) → Shaping n r tied free a p → p .height ≤ n
-height-few n r tied free a p x = omega (arith, entries-few n tied free (a .stack) (a .starts) (a .kinds) (p .height) (x .every), x .whole)
+height-few n r tied free a p x = omega (arith, entries-few n tied free (a .stack) (a .numbers) (a .kinds) (p .height) (x .every), x .whole)
 
 turn {ℓ} : {A : Type ℓ} {x y : A} → x ≡ y → (P : A → Type 0) → P x → P y
 turn e P h = subst P e h
 
--- one store more
-
-stored : (xs : List ℕ) (i x : ℕ) → i < length xs → take (i + 1) (set xs i x) ≡ take i xs ++ (x ∷ [])
-stored xs i x l = ap (λ k. take k (set xs i x)) (add-one i) ∙ take-suc-set xs i x l
-
-blank-next : (xs : List ℕ) (i x m : ℕ) → i < m → drop i xs ≡ replicate (m - i) 0 → drop (i + 1) (set xs i x) ≡ replicate (m - (i + 1)) 0
-blank-next xs i x m l e =
-    let one : m - i ≡ suc (m - (i + 1)) = omega arith in
-    drop-set-lt (i + 1) xs i x (omega arith)
-    ∙ sym (drop-drop 1 i xs)
-    ∙ ap (drop 1) (e ∙ ap (λ k. replicate k 0) one)
-
 -- the top entry
 top-entry : (a : Arrays) (h top : ℕ) → h ≡ suc top
-    → entries (a .stack) (a .starts) (a .kinds) h
-    ≡ record { set = getD (a .stack) top []; start = getD (a .starts) top 0; series = getD (a .kinds) top false }
-    ∷ entries (a .stack) (a .starts) (a .kinds) top
+    → entries (a .stack) (a .numbers) (a .kinds) h ≡ entryAt (a .stack) (a .numbers) (a .kinds) top ∷ entries (a .stack) (a .numbers) (a .kinds) top
 unfolding entries
-top-entry a h top e = ap (entries (a .stack) (a .starts) (a .kinds)) e
+top-entry a h top e = ap (entries (a .stack) (a .numbers) (a .kinds)) e
 
 module _ (n : ℕ) (few : n ≤ 128) (r tied free : Rel) (a : Arrays) (p : Progress) (x : Shaping n r tied free a p) (top : ℕ) (h : p .height ≡ suc top) where
   abbrev top-of : Entry
-  top-of = record { set = getD (a .stack) top []; start = getD (a .starts) top 0; series = getD (a .kinds) top false }
+  top-of = entryAt (a .stack) (a .numbers) (a .kinds) top
 
   abbrev others : List Entry
-  others = entries (a .stack) (a .starts) (a .kinds) top
+  others = entries (a .stack) (a .numbers) (a .kinds) top
 
   all-entries : entriesOf a p ≡ top-of ∷ others
   all-entries = top-entry a (p .height) top h
@@ -94,11 +84,14 @@ module _ (n : ℕ) (few : n ≤ 128) (r tied free : Rel) (a : Arrays) (p : Progr
   pub top-ok : EntryOk n tied free top-of × Every n tied free others
   top-ok = subst (Every n tied free) all-entries (x .every)
 
-  jobs-left : p .placed + (length (members (top-of .set)) + jobsOf (sets others)) ≡ n
-  jobs-left = ap (λ es. p .placed + jobsOf (sets es)) (sym all-entries) ∙ x .whole
+  top-apart : Apart (setsOf (top-of ∷ others))
+  top-apart = subst (λ es. Apart (setsOf es)) all-entries (x .apart)
 
-  pub top-few : top ≤ jobsOf (sets others)
-  top-few = entries-few n tied free (a .stack) (a .starts) (a .kinds) top (top-ok .1)
+  jobs-left : p .placed + (length (members (top-of .set)) + jobsOf (setsOf others)) ≡ n
+  jobs-left = ap (λ es. p .placed + jobsOf (setsOf es)) (sym all-entries) ∙ x .whole
+
+  pub top-few : top ≤ jobsOf (setsOf others)
+  top-few = entries-few n tied free (a .stack) (a .numbers) (a .kinds) top (top-ok .1)
 
   pub room : (top + length (members (top-of .set)) ≤ n) × (p .count < 255) × (p .placed < n) × (p .groups < 255)
   room =
@@ -116,7 +109,7 @@ module _ (n : ℕ) (few : n ≤ 128) (r tied free : Rel) (a : Arrays) (p : Progr
       → Shaping n r tied free
       (record {
         stack = a .stack;
-        starts = a .starts;
+        numbers = a .numbers;
         kinds = a .kinds;
         fields = set (a .fields) (p .count) j;
         forward = set (a .forward) (p .placed) j;
@@ -126,20 +119,19 @@ module _ (n : ℕ) (few : n ≤ 128) (r tied free : Rel) (a : Arrays) (p : Progr
   leaf-next j one irr q qh qc qg qp =
       let same : q .height ≡ top = omega (arith, qh, h) in
       let rm = room in
-      let es : entries (a .stack) (a .starts) (a .kinds) (q .height) ≡ others = ap (entries (a .stack) (a .starts) (a .kinds)) same in
+      let es : entries (a .stack) (a .numbers) (a .kinds) (q .height) ≡ others = ap (entries (a .stack) (a .numbers) (a .kinds)) same in
       record {
         stacks = x .stacks;
         fields-size = length-set (a .fields) (p .count) j ∙ x .fields-size;
         forward-size = length-set (a .forward) (p .placed) j ∙ x .forward-size;
         reverse-size = length-set (a .reverse) (top-of .start) j ∙ x .reverse-size;
         every = subst (Every n tied free) (sym es) (top-ok .1);
-        whole = omega (arith, ap (λ l. jobsOf (sets l)) es, jobs-left, ap length one, qp);
+        apart = subst (λ l. Apart (setsOf l)) (sym es) (top-apart .2);
+        whole = omega (arith, ap (λ l. jobsOf (setsOf l)) es, jobs-left, ap length one, qp);
         groups-few = omega (arith, x .groups-few, qg, qp, qh);
         count-is = omega (arith, x .count-is, qc, qg, qp);
-        forward-blank =
-            ap (λ k. drop k (set (a .forward) (p .placed) j)) qp
-            ∙ blank-next (a .forward) (p .placed) j 128 (omega (arith, rm .2)) (x .forward-blank)
-            ∙ ap (λ k. replicate (128 - k) 0) (sym qp);
+        fields-blank = blank-stored (a .fields) (p .count) (q .count) j 256 (omega (arith, rm .1)) qc (x .fields-blank);
+        forward-blank = blank-stored (a .forward) (p .placed) (q .placed) j 128 (omega (arith, rm .2)) qp (x .forward-blank);
         reverse-blank = drop-set-lt n (a .reverse) (top-of .start) j (omega (arith, top-ok .0 .fits, top-ok .0 .some)) ∙ x .reverse-blank;
         todo =
             subst (λ l. Todo n r (take (q .count) (set (a .fields) (p .count) j)) (take (q .placed) (set (a .forward) (p .placed) j))
@@ -161,11 +153,11 @@ module _ (n : ℕ) (few : n ≤ 128) (r tied free : Rel) (a : Arrays) (p : Progr
       → q .groups ≡ p .groups → q .placed ≡ p .placed + 1 → (fields forward reverse : List ℕ) → fields ≡ set (a .fields) (p .count) j
       → forward ≡ set (a .forward) (p .placed) j → reverse ≡ set (a .reverse) (top-of .start) j
       → Shaping n r tied free
-      (record { stack = a .stack; starts = a .starts; kinds = a .kinds; fields = fields; forward = forward; reverse = reverse })
+      (record { stack = a .stack; numbers = a .numbers; kinds = a .kinds; fields = fields; forward = forward; reverse = reverse })
       q
   leaf-turn j one irr q qh qc qg qp fields forward reverse ef eo er =
       let b : List ℕ → List ℕ → List ℕ → Arrays =
-      λ f o v. record { stack = a .stack; starts = a .starts; kinds = a .kinds; fields = f; forward = o; reverse = v } in
+      λ f o v. record { stack = a .stack; numbers = a .numbers; kinds = a .kinds; fields = f; forward = o; reverse = v } in
       turn (sym ef) (λ f. Shaping n r tied free (b f forward reverse) q)
       (turn (sym eo) (λ o. Shaping n r tied free (b (set (a .fields) (p .count) j) o reverse) q)
       (turn (sym er) (λ v. Shaping n r tied free (b (set (a .fields) (p .count) j) (set (a .forward) (p .placed) j) v) q)
@@ -177,6 +169,11 @@ module _ (n : ℕ) (few : n ≤ 128) (r tied free : Rel) (a : Arrays) (p : Progr
       (split : Splits (closeOf (top-of .series) tied free) under (top-of .series) (top-of .set) parts) (two : 2 ≤ length parts) where
     jobs-same : jobsOf parts ≡ length (members (top-of .set))
     jobs-same = splits-jobs (closeOf (top-of .series) tied free) under (top-of .series) parts (top-of .set) split
+
+    parts-apart : Apart (parts ++ setsOf others)
+    parts-apart =
+        splits-apart (closeOf (top-of .series) tied free) under (top-of .series) parts (top-of .set) (setsOf others)
+        (λ v q. omega (arith, top-ok .0 .small v q)) split (top-apart .1) (top-apart .2)
 
     abbrev size : ℕ
     size = length (members (top-of .set))
@@ -200,20 +197,20 @@ module _ (n : ℕ) (few : n ≤ 128) (r tied free : Rel) (a : Arrays) (p : Progr
         (todo-group n r (kindOf (top-of .series)) (take (p .count) (a .fields)) (take (p .placed) (a .forward)) (a .reverse) (p .groups) (top-of .start)
         (members (top-of .set)) (members b) (members c) (map members ps) (pend others) g todo-here)
 
-    pub group-next : (stack : List (List ℕ)) (starts : List ℕ) (kinds : List Bool) (q : Progress) → Stacks stack starts kinds
-        → entries stack starts kinds (q .height) ≡ spreadOut (top-of .series) (top-of .start) size parts ++ others → q .height ≡ top + length parts
+    pub group-next : (stack : List (List ℕ)) (numbers : List ℕ) (kinds : List Bool) (q : Progress) → Stacks stack numbers kinds
+        → entries stack numbers kinds (q .height) ≡ spreadOut (top-of .series) (top-of .start) size parts ++ others → q .height ≡ top + length parts
         → q .count ≡ p .count + 1 → q .groups ≡ p .groups + 1 → q .placed ≡ p .placed
         → Shaping n r tied free
         (record {
           stack = stack;
-          starts = starts;
+          numbers = numbers;
           kinds = kinds;
           fields = set (a .fields) (p .count) (groupField (top-of .series) (length parts - 1));
           forward = a .forward;
           reverse = a .reverse;
         })
         q
-    group-next stack starts kinds q z es qh qc qg qp =
+    group-next stack numbers kinds q z es qh qc qg qp =
         let field = groupField (top-of .series) (length parts - 1) in
         let rm = room in
         record {
@@ -227,10 +224,17 @@ module _ (n : ℕ) (few : n ≤ 128) (r tied free : Rel) (a : Arrays) (p : Progr
               (splits-every n tied free under (top-of .series) (top-of .start) size (top-ok .0 .fits) parts (top-of .set) (top-ok .0 .small) few split
               (omega (arith, jobs-same)))
               (top-ok .1));
+          apart =
+              subst (λ l. Apart (setsOf l)) (sym es)
+              (subst Apart
+              (sym
+              (sets-append (spreadOut (top-of .series) (top-of .start) size parts) others
+              ∙ ap (λ l. l ++ setsOf others) (sets-spread (top-of .series) (top-of .start) size parts)))
+              parts-apart);
           whole =
               omega (
                 arith,
-                ap (λ l. jobsOf (sets l)) es,
+                ap (λ l. jobsOf (setsOf l)) es,
                 jobs-append (spreadOut (top-of .series) (top-of .start) size parts) others,
                 jobs-spread (top-of .series) (top-of .start) size parts,
                 jobs-same,
@@ -239,6 +243,7 @@ module _ (n : ℕ) (few : n ≤ 128) (r tied free : Rel) (a : Arrays) (p : Progr
               );
           groups-few = omega (arith, x .groups-few, qg, qp, qh, h, two);
           count-is = omega (arith, x .count-is, qc, qg, qp);
+          fields-blank = blank-stored (a .fields) (p .count) (q .count) field 256 (omega (arith, rm .1)) qc (x .fields-blank);
           forward-blank = ap (λ k. drop k (a .forward)) qp ∙ x .forward-blank ∙ ap (λ k. replicate (128 - k) 0) (sym qp);
           reverse-blank = x .reverse-blank;
           todo =
@@ -264,60 +269,73 @@ module _ (n : ℕ) (few : n ≤ 128) (r tied free : Rel) (a : Arrays) (p : Progr
               (todo-parts parts two group-here)))));
         }
 
-    group-turn : (stack : List (List ℕ)) (starts : List ℕ) (kinds : List Bool) (q : Progress) → Stacks stack starts kinds
-        → entries stack starts kinds (q .height) ≡ spreadOut (top-of .series) (top-of .start) size parts ++ others → q .height ≡ top + length parts
+    group-turn : (stack : List (List ℕ)) (numbers : List ℕ) (kinds : List Bool) (q : Progress) → Stacks stack numbers kinds
+        → entries stack numbers kinds (q .height) ≡ spreadOut (top-of .series) (top-of .start) size parts ++ others → q .height ≡ top + length parts
         → q .count ≡ p .count + 1 → q .groups ≡ p .groups + 1 → q .placed ≡ p .placed → (fields : List ℕ)
         → fields ≡ set (a .fields) (p .count) (groupField (top-of .series) (length parts - 1))
         → Shaping n r tied free
-        (record { stack = stack; starts = starts; kinds = kinds; fields = fields; forward = a .forward; reverse = a .reverse })
+        (record { stack = stack; numbers = numbers; kinds = kinds; fields = fields; forward = a .forward; reverse = a .reverse })
         q
-    group-turn stack starts kinds q z es qh qc qg qp fields ef =
+    group-turn stack numbers kinds q z es qh qc qg qp fields ef =
         turn (sym ef)
-        (λ f. Shaping n r tied free (record { stack = stack; starts = starts; kinds = kinds; fields = f; forward = a .forward; reverse = a .reverse }) q)
-        (group-next stack starts kinds q z es qh qc qg qp)
+        (λ f. Shaping n r tied free (record { stack = stack; numbers = numbers; kinds = kinds; fields = f; forward = a .forward; reverse = a .reverse }) q)
+        (group-next stack numbers kinds q z es qh qc qg qp)
+
+  -- the parts may take the place of the top entry
+  pub opens : (under : Rel) {parts : List (List ℕ)} {count : ℕ} → Cut (closeOf (top-of .series) tied free) under (top-of .series) (top-of .set) parts count
+      → Opens top-of others (take count parts)
+  opens under {parts = parts} {count = count} cut =
+      record {
+        some = top-ok .0 .some;
+        fits = omega (arith, top-ok .0 .fits);
+        jobs = cut-jobs cut;
+        apart =
+            splits-apart (closeOf (top-of .series) tied free) under (top-of .series) (take count parts) (top-of .set) (setsOf others)
+            (λ v q. omega (arith, top-ok .0 .small v q)) (cut .these) (top-apart .1) (top-apart .2);
+      }
 
   pub group-cut : (under : Rel) → Strict n r → ((u v : ℕ) → under u v ≡ r v u) → Alike n r (closeOf (top-of .series) tied free) (top-of .series)
       → {parts : List (List ℕ)} {count : ℕ} → Cut (closeOf (top-of .series) tied free) under (top-of .series) (top-of .set) parts count → 2 ≤ count
-      → (stack : List (List ℕ)) (starts : List ℕ) (kinds : List Bool) (q : Progress) → Stacks stack starts kinds → (whole : ℕ)
-      → whole ≡ length (members (top-of .set))
-      → entries stack starts kinds (top + count) ≡ spreadOut (top-of .series) (top-of .start) whole (take count parts) ++ others → q .height ≡ top + count
+      → (stack : List (List ℕ)) (numbers : List ℕ) (kinds : List Bool) (q : Progress) → Stacks stack numbers kinds
+      → entries stack numbers kinds (top + count) ≡ opened top-of (take count parts) ++ others → q .height ≡ top + count
       → q .count ≡ p .count + 1 → q .groups ≡ p .groups + 1 → q .placed ≡ p .placed → (fields : List ℕ)
       → fields ≡ set (a .fields) (p .count) (groupField (top-of .series) (count - 1))
       → Shaping n r tied free
-      (record { stack = stack; starts = starts; kinds = kinds; fields = fields; forward = a .forward; reverse = a .reverse })
+      (record { stack = stack; numbers = numbers; kinds = kinds; fields = fields; forward = a .forward; reverse = a .reverse })
       q
-  group-cut under strict turned alike {parts = parts} {count = count} cut two stack starts kinds q z whole all es qh qc qg qp fields ef =
+  group-cut under strict turned alike {parts = parts} {count = count} cut two stack numbers kinds q z es qh qc qg qp fields ef =
       let long : length (take count parts) ≡ count = cut-count cut (omega (arith, top-ok .0 .fits)) in
-      group-turn under strict turned alike (take count parts) (cut .these) (omega (arith, long)) stack starts kinds q z
-      (ap (entries stack starts kinds) qh ∙ es ∙ ap (λ k. spreadOut (top-of .series) (top-of .start) k (take count parts) ++ others) all)
+      group-turn under strict turned alike (take count parts) (cut .these) (omega (arith, long)) stack numbers kinds q z
+      (ap (entries stack numbers kinds) qh ∙ es)
       (omega (arith, long)) qc qg qp fields
       (ef ∙ ap (λ k. set (a .fields) (p .count) (groupField (top-of .series) (k - 1))) (sym long))
 
 -- all jobs on the stack: nothing is written
 pub shape-start : (n : ℕ) → n ≤ 128 → (r tied free : Rel) (all : List ℕ) (flag : Bool) → members all ≡ below n
-    → EntryOk n tied free (record { set = all; start = 0; series = flag }) → (a : Arrays) → Stacks (a .stack) (a .starts) (a .kinds)
-    → getD (a .stack) 0 [] ≡ all → getD (a .starts) 0 0 ≡ 0 → getD (a .kinds) 0 false ≡ flag → length (a .fields) ≡ 256
+    → EntryOk n tied free (record { set = all; start = 0; series = flag }) → (a : Arrays) → Stacks (a .stack) (a .numbers) (a .kinds)
+    → getD (a .stack) 0 [] ≡ all → a .numbers ≡ replicate 128 0 → getD (a .kinds) 0 false ≡ flag → a .fields ≡ replicate 256 0
     → a .forward ≡ replicate 128 0 → a .reverse ≡ replicate 128 0 → (p : Progress) → p .height ≡ 1 → p .count ≡ 0 → p .groups ≡ 0 → p .placed ≡ 0
     → Shaping n r tied free a p
 unfolding entries
-shape-start n few r tied free all flag is-all ok a z at start kind long-fields forward reverse p ph pc pg pp =
+shape-start n few r tied free all flag is-all ok a z at start kind fields forward reverse p ph pc pg pp =
     let top : Entry = record { set = all; start = 0; series = flag } in
     let es : entriesOf a p ≡ top ∷ [] =
-    ap (entries (a .stack) (a .starts) (a .kinds)) ph
-    ∙ ap (λ s. record { set = s; start = getD (a .starts) 0 0; series = getD (a .kinds) 0 false } ∷ []) at
-    ∙ ap (λ i. record { set = all; start = i; series = getD (a .kinds) 0 false } ∷ []) start
-    ∙ ap (λ b. record { set = all; start = 0; series = b } ∷ []) kind in
+    ap (entries (a .stack) (a .numbers) (a .kinds)) ph
+    ∙ ap (λ e. e ∷ [])
+    (entry-same at (ap (λ l. getD l (lead (getD (a .stack) 0 [])) 0) start ∙ getD-zeros 128 (lead (getD (a .stack) 0 []))) kind) in
     let all-size : length (members all) ≡ n = ap length is-all ∙ length-below n in
     let long : length (a .reverse) ≡ 128 = ap length reverse ∙ length-replicate {A = ℕ} 128 0 in
     record {
       stacks = z;
-      fields-size = long-fields;
+      fields-size = ap length fields ∙ length-replicate {A = ℕ} 256 0;
       forward-size = ap length forward ∙ length-replicate {A = ℕ} 128 0;
       reverse-size = long;
       every = subst (Every n tied free) (sym es) (ok, tt);
-      whole = omega (arith, ap (λ l. jobsOf (sets l)) es, all-size, pp);
+      apart = subst (λ l. Apart (setsOf l)) (sym es) (ok .some, (λ v q. tt), tt);
+      whole = omega (arith, ap (λ l. jobsOf (setsOf l)) es, all-size, pp);
       groups-few = omega (arith, pg, pp, ph);
       count-is = omega (arith, pc, pg, pp);
+      fields-blank = ap (λ k. drop k (a .fields)) pc ∙ fields ∙ ap (λ k. replicate (256 - k) 0) (sym pc);
       forward-blank = ap (λ k. drop k (a .forward)) pp ∙ forward ∙ ap (λ k. replicate (128 - k) 0) (sym pp);
       reverse-blank = ap (drop n) reverse ∙ drop-replicate n 128;
       todo =
@@ -329,6 +347,11 @@ shape-start n few r tied free all flag is-all ok a z at start kind long-fields f
           (todo-all n r (a .reverse) (omega (arith, long)))))));
     }
   where
+    getD-zeros : (m i : ℕ) → getD (replicate {A = ℕ} m 0) i 0 ≡ 0
+    getD-zeros zero i = refl
+    getD-zeros (suc m) zero = refl
+    getD-zeros (suc m) (suc i) = getD-zeros m i
+
     drop-replicate : (i m : ℕ) → drop {A = ℕ} i (replicate m 0) ≡ replicate (m - i) 0
     drop-replicate zero m = let e : m ≡ m - 0 = omega arith in ap (λ k. replicate {A = ℕ} k 0) e
     drop-replicate (suc i) zero = let e : 0 ≡ 0 - suc i = omega arith in ap (λ k. replicate {A = ℕ} k 0) e
@@ -338,27 +361,21 @@ shape-start n few r tied free all flag is-all ok a z at start kind long-fields f
 
 -- nothing is left on the stack: the tree is written
 pub shape-done : (n : ℕ) → n ≤ 128 → (r tied free : Rel) → Strict n r → (a : Arrays) (p : Progress) → Shaping n r tied free a p → p .height ≡ 0
-    → (t : Tree) × (treeOf n r ≡ some t) × (take (p .count) (a .fields) ≡ tokens t) × (p .groups ≡ groups t) × (a .forward ≡ padded (leaves t))
-    × (a .reverse ≡ padded (reversed t)) × (p .count ≤ 256)
+    → shaped p (a .fields) (a .forward) (a .reverse) ≡ shape (treeOf n r)
 unfolding entries
 shape-done n few r tied free strict a p x e =
-    let none : entriesOf a p ≡ [] = ap (entries (a .stack) (a .starts) (a .kinds)) e in
+    let none : entriesOf a p ≡ [] = ap (entries (a .stack) (a .numbers) (a .kinds)) e in
     let (t, tells, spelt, forward, reverse, number) =
     todo-none n r (take (p .count) (a .fields)) (take (p .placed) (a .forward)) (a .reverse) (p .groups)
     (subst (λ es. Todo n r (take (p .count) (a .fields)) (take (p .placed) (a .forward)) (a .reverse) (p .groups) (pend es)) none (x .todo)) in
-    let m = tells-means n r t tells in
-    let all : p .placed ≡ n = omega (arith, x .whole, ap (λ es. jobsOf (sets es)) none) in
-    let long : length (leaves t) ≡ p .placed = ap length forward ∙ length-take-le (p .placed) (a .forward) (omega (arith, x .forward-size)) in
-    let back : length (reversed t) ≡ n = ap length (sym reverse) ∙ length-take-le n (a .reverse) (omega (arith, x .reverse-size)) in (
-      t,
-      tree-of-means n r t (m .0) (m .1),
-      sym spelt,
-      sym number,
-      sym (take-append-drop (p .placed) (a .forward))
-          ∙ ap₂ _++_ (sym forward) (x .forward-blank ∙ ap (λ k. replicate (128 - k) 0) (sym long)),
-      sym (take-append-drop n (a .reverse)) ∙ ap₂ _++_ reverse (x .reverse-blank ∙ ap (λ k. replicate (128 - k) 0) (sym back)),
-      omega (arith, x .count-is, x .groups-few),
-    )
+    let means = tells-means n r t tells in
+    let all : p .placed ≡ n = omega (arith, x .whole, ap (λ es. jobsOf (setsOf es)) none) in
+    let (ec, ef) = whole-list (a .fields) (tokens t) (p .count) 256 (omega (arith, x .fields-size, x .count-is, x .groups-few)) (sym spelt) (x .fields-blank) in
+    let (l, eo) = whole-list (a .forward) (leaves t) (p .placed) 128 (omega (arith, x .forward-size)) (sym forward) (x .forward-blank) in
+    let (m, er) = whole-list (a .reverse) (reversed t) n 128 (omega (arith, x .reverse-size)) reverse (x .reverse-blank) in
+    let eg = sym number in
+    (λ i. record { ok = true; fields = ef i; count = ec i; groups = eg i; forward = eo i; reverse = er i })
+    ∙ ap shape (sym (tree-of-means n r t (means .0) (means .1)))
 
 -- an N: no tree
 pub no-tree : (n : ℕ) (r : Rel) → Strict n r → HasN n r → treeOf n r ≡ none

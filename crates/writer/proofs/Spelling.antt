@@ -2,13 +2,14 @@
 use Prim.Native.Nat.{ℕ, _+_, _*_, _-_, _^_, _≤_, _<_}
 use mathlib.Core.Path.{_≡_, refl, sym, ap, ap₂, subst, _∙_}
 use mathlib.Core.List.{List, [], _∷_, _++_, flatMap, append-assoc, append-nil, List·Memᴰ·head}
-use mathlib.Core.Bool.{Bool, true, false, not}
+use mathlib.Core.Bool.{Bool, true, false}
 use mathlib.Core.Option.{Option, none, some}
 use native.Mathlib.Omega.{arith}
 use lib.Dec.{ltb}
-use lib.ListN.{length, length-append}
+use lib.ListN.{length, take, replicate, length-append, length-replicate}
+use lib.Seq.{take-at}
 use Rattle.poset.specs.Order.{Rel, Strict}
-use Rattle.poset.specs.Tree.{Kind, series, parallel, Tree, leaf, node, Forest, last, more, leaves, forestLeaves, groups, Spans}
+use Rattle.poset.specs.Tree.{Kind, Tree, leaf, node, Forest, last, more, leaves, forestLeaves, groups, forestGroups, Spans}
 use Rattle.poset.specs.Decompose.{treeOf}
 use Rattle.poset.proofs.Laws.{clash, lt-true, false-unless, ltb-true}
 use Rattle.poset.proofs.Theorems.{tree-of-sound}
@@ -16,10 +17,11 @@ use Rattle.record.specs.Bits.{AllBelow, bits, bytesOf}
 use Rattle.record.specs.Layout.{kindBit, moreChildren, treeBits, forestBits, layout}
 use Rattle.record.proofs.Below.{below-nil, below-cons, below-append}
 use Rattle.record.proofs.Fields.{bits-cons}
-use Rattle.record.proofs.Sizes.{groups-lt, forest-groups, length-treeBits, length-leaves, Small, small-left, small-right, spans-small}
+use Rattle.record.proofs.Records.{layout-length}
+use Rattle.record.proofs.Sizes.{groups-lt, forest-groups, kind-below, length-treeBits, length-leaves, Small, small-left, small-right, spans-small}
 use Rattle.writer.specs.Packing.{fieldBits, Ends}
-use Rattle.writer.specs.Tokens.{groupToken, tokens, forestTokens, Found, ShapeOf}
-use Rattle.writer.specs.Written.{WrittenOf}
+use Rattle.writer.specs.Tokens.{groupToken, tokens, forestTokens, shape}
+use Rattle.writer.specs.Written.{filled, written}
 use Rattle.writer.specs.declared.tree.Shape.{Shape}
 use Rattle.writer.specs.declared.writing.Written.{Written}
 
@@ -36,11 +38,6 @@ leaf-bits j l =
     ∙ ap (bits 8) e
     ∙ bits-cons 7 0 j (omega arith) (omega arith)
 
-kind-small : (k : Kind) → kindBit k < 2
-unfolding kindBit
-kind-small series = omega arith
-kind-small parallel = omega arith
-
 group-bits : (k : Kind) (m : ℕ) → m < 128 → fieldBits (groupToken k m) ≡ 1 ∷ kindBit k ∷ bits 7 m
 unfolding fieldBits
 group-bits k m l =
@@ -49,7 +46,7 @@ group-bits k m l =
     let big : ltb x 256 ≡ false = false-unless (ltb x 256) (λ h. omega (arith, ltb-true x 256 h)) in
     ap (λ b. elim b [ true ↦ bits 8 x | false ↦ 1 ∷ bits 8 (x - 256) ]) big
     ∙ ap (λ y. 1 ∷ bits 8 y) e
-    ∙ ap (λ l. 1 ∷ l) (bits-cons 7 (kindBit k) m (kind-small k) (omega arith))
+    ∙ ap (λ l. 1 ∷ l) (bits-cons 7 (kindBit k) m (kind-below k) (omega arith))
 
 -- a group has at most 128 children
 children-few : (t : Tree) (f : Forest) → Small (leaves t ++ forestLeaves f) → moreChildren f < 128
@@ -77,7 +74,7 @@ mutual
   tokens-below : (t : Tree) → Small (leaves t) → AllBelow 512 (tokens t)
   tokens-below (leaf j) h = below-cons (omega (arith, h .0 j (List·Memᴰ·head refl))) below-nil
   tokens-below (node k t f) h =
-      below-cons (omega (arith, kind-small k, children-few t f h))
+      below-cons (omega (arith, kind-below k, children-few t f h))
       (below-append (tokens-below t (small-left (leaves t) (forestLeaves f) h)) (forest-tokens-below f (small-right (leaves t) (forestLeaves f) h)))
 
   forest-tokens-below : (f : Forest) → Small (forestLeaves f) → AllBelow 512 (forestTokens f)
@@ -85,50 +82,101 @@ mutual
   forest-tokens-below (more t f) h =
       below-append (tokens-below t (small-left (leaves t) (forestLeaves f) h)) (forest-tokens-below f (small-right (leaves t) (forestLeaves f) h))
 
+-- a field for each leaf and group
+
+both : (xs ys ls ms : List ℕ) (g h : ℕ) → length xs ≡ length ls + g → length ys ≡ length ms + h → length (xs ++ ys) ≡ length (ls ++ ms) + (g + h)
+both xs ys ls ms g h p q = omega (arith, p, q, length-append xs ys, length-append ls ms)
+
+mutual
+  unfolding leaves groups
+
+  tokens-length : (t : Tree) → length (tokens t) ≡ length (leaves t) + groups t
+  tokens-length (leaf j) = refl
+  tokens-length (node k t f) =
+      omega (arith, both (tokens t) (forestTokens f) (leaves t) (forestLeaves f) (groups t) (forestGroups f) (tokens-length t) (forest-tokens-length f))
+
+  forest-tokens-length : (f : Forest) → length (forestTokens f) ≡ length (forestLeaves f) + forestGroups f
+  forest-tokens-length (last t) = tokens-length t
+  forest-tokens-length (more t f) =
+      both (tokens t) (forestTokens f) (leaves t) (forestLeaves f) (groups t) (forestGroups f) (tokens-length t) (forest-tokens-length f)
+
 -- what packing asks of the fields of an order's tree, and what it gives
-pub record Spells (n : ℕ) (t : Tree) (fields : List ℕ) : Type 0 where
+pub record Spells (t : Tree) (fields : List ℕ) : Type 0 where
   pub low : AllBelow 512 fields
   pub room : length (flatMap fieldBits fields) ≤ 2167
   pub these : flatMap fieldBits fields ≡ treeBits t
 
-pub spells : (n : ℕ) → n ≤ 128 → (r : Rel) → Strict n r → (t : Tree) → treeOf n r ≡ some t → (fields : List ℕ) → fields ≡ tokens t → Spells n t fields
-spells n few r strict t e fields q =
-    let spans = tree-of-sound n r t strict e .0 .spans in
-    let small = spans-small n t few spans in
-    let same = ap (flatMap fieldBits) q ∙ token-bits t small in
-    record {
-      low = subst (AllBelow 512) (sym q) (tokens-below t small);
-      room = omega (arith, ap length same, length-treeBits t, groups-lt t, length-leaves n t spans);
-      these = same;
-    }
+-- a tree or none, as a flag tells
+told : (P : Option Tree → Type 0) (ok : Bool) → (P none → ok ≡ false) → ((t : Tree) → P (some t) → ok ≡ true) → (o : Option Tree) → P o
+    → (ok ≡ true → (t : Tree) × (o ≡ some t) × P (some t)) × (ok ≡ false → o ≡ none)
+told P ok low high none h = ((λ e. absurd (clash e (low h))), λ e. refl)
+told P ok low high (some t) h = ((λ e. (t, refl, h)), λ e. absurd (clash (high t h) e))
 
--- a shape is found, or there is none
+pub shape-told : (o : Option Tree) (r : Shape) → r ≡ shape o
+    → (r .ok ≡ true → (t : Tree) × (o ≡ some t) × (r ≡ shape (some t))) × (r .ok ≡ false → o ≡ none)
+shape-told o r = told (λ o. r ≡ shape o) (r .ok) (ap (λ (r : Shape). r .ok)) (λ t. ap (λ (r : Shape). r .ok)) o
 
-pub found : (o : Option Tree) (r : Shape) → ShapeOf o r → r .ok ≡ true → (t : Tree) × (o ≡ some t) × Found t r
-found none r h e = absurd (clash e h)
-found (some t) r h e = (t, refl, h)
+pub written-told : (n : ℕ) (o : Option Tree) (w : Written) → w ≡ written n o
+    → (w .ok ≡ true → (t : Tree) × (o ≡ some t) × (w ≡ written n (some t))) × (w .ok ≡ false → o ≡ none)
+written-told n o w = told (λ o. w ≡ written n o) (w .ok) (ap (λ (w : Written). w .ok)) (λ t. ap (λ (w : Written). w .ok)) o
 
-pub unfound : (n : ℕ) (o : Option Tree) (r : Shape) (w : Written) → ShapeOf o r → r .ok ≡ false → w .ok ≡ false → WrittenOf n o w
-unfound n none r w h e q = q
-unfound n (some t) r w h e q = absurd (clash (h .accepted) e)
+module _ (n : ℕ) (few : n ≤ 128) (r : Rel) (strict : Strict n r) (t : Tree) (e : treeOf n r ≡ some t) where
+  spans : Spans n t
+  spans = tree-of-sound n r t strict e .0 .spans
 
--- the packed fields are the record
-pub wrote : (n : ℕ) (o : Option Tree) (t : Tree) (r : Shape) (bytes : List ℕ) (count : ℕ) (fields : List ℕ) → o ≡ some t → Found t r → Spells n t fields
-    → Ends (bits 7 (n - 1) ++ flatMap fieldBits fields) bytes count
-    → WrittenOf n o (record { ok = true; bytes = bytes; count = count; groups = r .groups; forward = r .forward; reverse = r .reverse })
-unfolding layout
-wrote n o t r bytes count fields e f s p =
-    subst (λ o. WrittenOf n o (record { ok = true; bytes = bytes; count = count; groups = r .groups; forward = r .forward; reverse = r .reverse })) (sym e)
-    (record {
-      accepted = refl;
-      size = p .size;
-      few = p .few;
-      these = p .these ∙ ap (λ l. bytesOf (bits 7 (n - 1) ++ l)) (s .these);
-      number = f .number;
-      forward-is = f .forward-is;
-      reverse-is = f .reverse-is;
-    })
+  -- the fields of a shape
+  module _ (s : Shape) (is : s ≡ shape (some t)) where
+    count-is : s .count ≡ length (tokens t)
+    count-is = ap (λ (s : Shape). s .count) is
 
-pub doubled : (b : Bool) → not b ≡ false → b ≡ true
-doubled true e = refl
-doubled false e = absurd (clash refl e)
+    pub count-fits : s .count ≤ 256
+    count-fits = omega (arith, count-is, tokens-length t, groups-lt t, length-leaves n t spans)
+
+    pub fields-size : length (s .fields) ≡ 256
+    fields-size =
+        ap (λ (s : Shape). length (s .fields)) is
+        ∙ length-append (tokens t) (replicate (256 - length (tokens t)) 0)
+        ∙ omega (arith, length-replicate {A = ℕ} (256 - length (tokens t)) 0, count-fits, count-is)
+
+    fields-are : take (s .count) (s .fields) ≡ tokens t
+    fields-are = ap (λ (s : Shape). take (s .count) (s .fields)) is ∙ take-at (tokens t) (replicate (256 - length (tokens t)) 0) (length (tokens t)) refl
+
+    pub spells : Spells t (take (s .count) (s .fields))
+    spells =
+        let small = spans-small n t few spans in
+        let same = ap (flatMap fieldBits) fields-are ∙ token-bits t small in
+        record {
+          low = subst (AllBelow 512) (sym fields-are) (tokens-below t small);
+          room = omega (arith, ap length same, length-treeBits t, groups-lt t, length-leaves n t spans);
+          these = same;
+        }
+
+    -- the packed fields are the record
+    pub wrote : (bytes : List ℕ) (count : ℕ) → Ends (bits 7 (n - 1) ++ flatMap fieldBits (take (s .count) (s .fields))) bytes count
+        → record { ok = true; bytes = bytes; count = count; groups = s .groups; forward = s .forward; reverse = s .reverse } ≡ written n (treeOf n r)
+    unfolding layout
+    wrote bytes count p =
+        let same : bytesOf (bits 7 (n - 1) ++ flatMap fieldBits (take (s .count) (s .fields))) ≡ layout n t =
+        ap (λ l. bytesOf (bits 7 (n - 1) ++ l)) (spells .these) in
+        let eb = p .these ∙ ap filled same in
+        let ec = p .number ∙ ap length same in
+        (λ i. record { ok = true; bytes = eb i; count = ec i; groups = is i .groups; forward = is i .forward; reverse = is i .reverse })
+        ∙ ap (written n) (sym e)
+
+  -- the bytes that are written
+  module _ (w : Written) (is : w ≡ written n (some t)) where
+    pub bytes-count : w .count ≡ length (layout n t)
+    bytes-count = ap (λ (w : Written). w .count) is
+
+    pub bytes-few : w .count ≤ 272
+    bytes-few = omega (arith, bytes-count, layout-length n t few spans .2)
+
+    pub bytes-size : length (w .bytes) ≡ 272
+    bytes-size =
+        ap (λ (w : Written). length (w .bytes)) is
+        ∙ length-append (layout n t) (replicate (272 - length (layout n t)) 0)
+        ∙ omega (arith, length-replicate {A = ℕ} (272 - length (layout n t)) 0, layout-length n t few spans .2)
+
+    pub bytes-are : take (w .count) (w .bytes) ≡ layout n t
+    bytes-are =
+        ap (λ (w : Written). take (w .count) (w .bytes)) is ∙ take-at (layout n t) (replicate (272 - length (layout n t)) 0) (length (layout n t)) refl

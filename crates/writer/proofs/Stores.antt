@@ -1,15 +1,38 @@
 -- Runs of stores, one after another, and lists with the same counts.
-use Prim.Native.Nat.{ℕ, zero, suc, _+_, _≤_, _<_}
-use mathlib.Core.Path.{_≡_, refl, sym, ap, subst, _∙_}
+use Prim.Native.Nat.{ℕ, suc, _+_, _-_, _≤_, _<_}
+use mathlib.Core.Path.{_≡_, refl, sym, ap, ap₂, _∙_}
 use mathlib.Core.List.{List, [], _∷_, _++_, List·Memᴰ, List·Memᴰ·head, List·Memᴰ·tail}
 use mathlib.Core.Logic.{⊎-elim}
 use native.Mathlib.Nat.{add-zero}
 use native.Mathlib.Omega.{arith}
 use lib.Dec.{eqb}
-use lib.ListN.{length, set, length-append}
-use lib.Seq.{sets, set-comm}
+use native.Mathlib.Numerals.{add-one}
+use lib.ListN.{length, take, drop, replicate, set, length-append, take-append-drop}
+use lib.Seq.{sets, set-comm, take-suc-set, drop-set-lt, drop-drop, length-take-le}
 use Rattle.poset.specs.Lists.{count}
 use Rattle.poset.proofs.Laws.{decided, clash, eqb-true, eqb-same, count-same, count-other, count-mem, count-append}
+
+-- a list filled from the left, zeros after it
+
+pub stored : (xs : List ℕ) (i x : ℕ) → i < length xs → take (i + 1) (set xs i x) ≡ take i xs ++ (x ∷ [])
+stored xs i x l = ap (λ k. take k (set xs i x)) (add-one i) ∙ take-suc-set xs i x l
+
+pub blank-next : (xs : List ℕ) (i x m : ℕ) → i < m → drop i xs ≡ replicate (m - i) 0 → drop (i + 1) (set xs i x) ≡ replicate (m - (i + 1)) 0
+blank-next xs i x m l e =
+    let one : m - i ≡ suc (m - (i + 1)) = omega arith in
+    drop-set-lt (i + 1) xs i x (omega arith)
+    ∙ sym (drop-drop 1 i xs)
+    ∙ ap (drop 1) (e ∙ ap (λ k. replicate k 0) one)
+
+pub blank-stored : (xs : List ℕ) (i j x m : ℕ) → i < m → j ≡ i + 1 → drop i xs ≡ replicate (m - i) 0 → drop j (set xs i x) ≡ replicate (m - j) 0
+blank-stored xs i j x m l e h =
+    ap (λ k. drop k (set xs i x)) e ∙ blank-next xs i x m l h ∙ ap (λ k. replicate (m - k) 0) (sym e)
+
+pub whole-list : (xs ys : List ℕ) (i m : ℕ) → i ≤ length xs → take i xs ≡ ys → drop i xs ≡ replicate (m - i) 0
+    → (i ≡ length ys) × (xs ≡ ys ++ replicate (m - length ys) 0)
+whole-list xs ys i m l first rest =
+    let long : i ≡ length ys = sym (length-take-le i xs l) ∙ ap length first in
+    (long, sym (take-append-drop i xs) ∙ ap₂ _++_ first (rest ∙ ap (λ k. replicate (m - k) 0) long))
 
 module _ {ℓ} {A : Type ℓ} where
   pub sets-append : (l : List A) (i : ℕ) (xs ys : List A) → sets l i (xs ++ ys) ≡ sets (sets l i xs) (i + length xs) ys

@@ -100,7 +100,7 @@ group-length k xs ys ls ms p q = omega (arith, joined-length k xs ys, length-app
 mutual
   unfolding leaves reversed
 
-  reversed-length : (t : Tree) → length (reversed t) ≡ length (leaves t)
+  pub reversed-length : (t : Tree) → length (reversed t) ≡ length (leaves t)
   reversed-length (leaf j) = refl
   reversed-length (node k t f) =
       group-length k (reversed t) (forestReversed k f) (leaves t) (forestLeaves f) (reversed-length t) (forestReversed-length k f)

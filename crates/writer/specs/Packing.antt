@@ -1,11 +1,13 @@
 -- Fields of bits as bytes, and what a packing holds.
+-- An inner contract: who reads the promise of write_record need not believe it, but specs/Written.antt alone.
 use Prim.Native.Nat.{ℕ, _-_, _≤_, _<_, _^_}
 use mathlib.Core.Path.{_≡_}
-use mathlib.Core.List.{List, _∷_, _++_, flatMap}
+use mathlib.Core.List.{List, _∷_, _++_}
 use mathlib.Core.Bool.{true, false}
 use lib.Dec.{ltb}
-use lib.ListN.{length, take, replicate}
+use lib.ListN.{length, take, drop, replicate}
 use Rattle.record.specs.Bits.{AllBelow, bits, bitsOf, bytesOf}
+use Rattle.writer.specs.Written.{filled}
 use Rattle.writer.specs.declared.pack.Packing.{Packing}
 
 -- a leaf is 8 bits; a group, 256 and more, is a 1 and 8 bits
@@ -18,17 +20,17 @@ pub record Ready (p : Packing) : Type 0 where
   pub few : p .have < 8
   pub small : p .value < 2 ^ p .have
 
--- the bits bs are the whole bytes and the bits in hand
+-- the bits bs are the whole bytes and the bits in hand; the other bytes are 0
 pub record Holds (bs bytes : List ℕ) (p : Packing) : Type 0 where
   pub size : length bytes ≡ 272
   pub whole : p .at ≤ 272
   pub few : p .have < 8
   pub small : p .value < 2 ^ p .have
   pub low : AllBelow 256 (take (p .at) bytes)
+  pub blank : drop (p .at) bytes ≡ replicate (272 - p .at) 0
   pub these : bs ≡ bitsOf (take (p .at) bytes) ++ bits (p .have) (p .value)
 
--- the first bytes are those of the bits bs
+-- the bytes of the bits bs, and how many there are
 pub record Ends (bs bytes : List ℕ) (count : ℕ) : Type 0 where
-  pub size : length bytes ≡ 272
-  pub few : count ≤ 272
-  pub these : take count bytes ≡ bytesOf bs
+  pub number : count ≡ length (bytesOf bs)
+  pub these : bytes ≡ filled (bytesOf bs)

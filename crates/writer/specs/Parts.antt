@@ -1,4 +1,5 @@
 -- Parts of a set of jobs.
+-- An inner contract: who reads the promise of write_record need not believe it, but specs/Written.antt alone.
 use Prim.Native.Nat.{ℕ, _≤_, _<_}
 use mathlib.Core.Path.{_≡_}
 use mathlib.Core.List.{List, [], _∷_}

@@ -1,14 +1,15 @@
 -- A tree as its fields in a row, node before children: a leaf is its job, a group is 256, 128 for a parallel one, and its children minus 1.
-use Prim.Native.Nat.{ℕ, _+_, _-_, _*_, _≤_}
-use mathlib.Core.Path.{_≡_}
+-- An inner contract: who reads the promise of write_record need not believe it, but specs/Written.antt alone.
+use Prim.Native.Nat.{ℕ, _+_, _-_, _*_}
 use mathlib.Core.List.{List, [], _∷_, _++_}
 use mathlib.Core.Bool.{true, false}
 use mathlib.Core.Option.{Option, none, some}
-use lib.ListN.{length, take, replicate}
+use lib.ListN.{length, replicate}
 use Rattle.poset.specs.Areas.{padded}
 use Rattle.poset.specs.Tree as Tree
 use Rattle.poset.specs.Tree.{Kind, leaf, node, Forest, last, more, leaves, reversed, groups}
 use Rattle.record.specs.Layout.{kindBit, moreChildren}
+use Rattle.writer.specs.declared.tree.Progress.{Progress}
 use Rattle.writer.specs.declared.tree.Shape.{Shape}
 
 abbrev pub groupToken : Kind → ℕ → ℕ
@@ -23,16 +24,24 @@ abbrev mutual
   forestTokens (last t) = tokens t
   forestTokens (more t f) = tokens t ++ forestTokens f
 
--- what is found of a tree: its fields, groups and sequences
-pub record Found (t : Tree.Tree) (r : Shape) : Type 0 where
-  pub accepted : r .ok ≡ true
-  pub fits : r .count ≤ 256
-  pub size : length (r .fields) ≡ 256
-  pub spelt : take (r .count) (r .fields) ≡ tokens t
-  pub number : r .groups ≡ groups t
-  pub forward-is : r .forward ≡ padded (leaves t)
-  pub reverse-is : r .reverse ≡ padded (reversed t)
+-- no tree: all zero
+abbrev pub noShape : Shape
+noShape = record { ok = false; fields = replicate 256 0; count = 0; groups = 0; forward = replicate 128 0; reverse = replicate 128 0 }
 
-abbrev pub ShapeOf : Option Tree.Tree → Shape → Type 0
-ShapeOf none r = r .ok ≡ false
-ShapeOf (some t) r = Found t r
+-- a tree that is written
+abbrev pub shaped : Progress → List ℕ → List ℕ → List ℕ → Shape
+shaped p fields forward reverse =
+    record { ok = true; fields = fields; count = p .count; groups = p .groups; forward = forward; reverse = reverse }
+
+-- what is found of a tree: its fields, groups and sequences
+abbrev pub shape : Option Tree.Tree → Shape
+shape none = noShape
+shape (some t) =
+    record {
+      ok = true;
+      fields = tokens t ++ replicate (256 - length (tokens t)) 0;
+      count = length (tokens t);
+      groups = groups t;
+      forward = padded (leaves t);
+      reverse = padded (reversed t);
+    }

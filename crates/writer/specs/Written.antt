@@ -1,24 +1,31 @@
 -- What is written of an order.
-use Prim.Native.Nat.{ℕ, _≤_}
-use mathlib.Core.Path.{_≡_}
+use Prim.Native.Nat.{ℕ, _-_}
+use mathlib.Core.List.{List, _++_}
 use mathlib.Core.Bool.{true, false}
 use mathlib.Core.Option.{Option, none, some}
-use lib.ListN.{length, take}
+use lib.ListN.{length, replicate}
+use Rattle.poset.specs.Areas.{padded}
 use Rattle.poset.specs.Tree.{Tree, leaves, reversed, groups}
 use Rattle.record.specs.Layout.{layout}
-use Rattle.poset.specs.Areas.{padded}
 use Rattle.writer.specs.declared.writing.Written.{Written}
 
--- the record of a tree on n jobs, its groups and its sequences
-pub record Writes (n : ℕ) (t : Tree) (r : Written) : Type 0 where
-  pub accepted : r .ok ≡ true
-  pub size : length (r .bytes) ≡ 272
-  pub few : r .count ≤ 272
-  pub these : take (r .count) (r .bytes) ≡ layout n t
-  pub number : r .groups ≡ groups t
-  pub forward-is : r .forward ≡ padded (leaves t)
-  pub reverse-is : r .reverse ≡ padded (reversed t)
+-- the bytes of a record in the first entries of 272, the others 0
+abbrev pub filled : List ℕ → List ℕ
+filled xs = xs ++ replicate (272 - length xs) 0
 
-abbrev pub WrittenOf : ℕ → Option Tree → Written → Type 0
-WrittenOf n none r = r .ok ≡ false
-WrittenOf n (some t) r = Writes n t r
+-- no record: all zero
+abbrev pub unwritten : Written
+unwritten = record { ok = false; bytes = replicate 272 0; count = 0; groups = 0; forward = replicate 128 0; reverse = replicate 128 0 }
+
+-- the record of a tree on n jobs, its groups and its sequences; or no record, where there is no tree
+abbrev pub written : ℕ → Option Tree → Written
+written n none = unwritten
+written n (some t) =
+    record {
+      ok = true;
+      bytes = filled (layout n t);
+      count = length (layout n t);
+      groups = groups t;
+      forward = padded (leaves t);
+      reverse = padded (reversed t);
+    }

@@ -1,8 +1,7 @@
 //! A set of jobs taken apart: its connected parts under a relation.
 use relation::set;
-ghost use Prim.Native.Nat.{ℕ, _<_};
 ghost use mathlib.Core.Path.{_≡_};
-ghost use mathlib.Core.Bool.{true, false};
+ghost use mathlib.Core.Bool.{true};
 ghost use lib.ListN.{length};
 ghost use Rattle.relation.specs.Table.{has, holds};
 ghost use Rattle.poset.specs.Lists.{any, below};
@@ -31,7 +30,8 @@ fn part_of(near: &[[u64; 2]; 128], s: [u64; 2], x: usize) -> [u64; 2]
     s
 }
 
-// A job of s that no job of s is before.
+// A job of s that no job of s is before. From the smallest job down by the largest ahead of it: few steps where the jobs are numbered
+// forwards or backwards.
 fn first_of(under: &[[u64; 2]; 128], s: [u64; 2]) -> usize
     requires { ⌜ Jobs s ⌝ }
     requires { ⌜ any (has s) (below 128) ≡ true ⌝ }
@@ -41,7 +41,7 @@ fn first_of(under: &[[u64; 2]; 128], s: [u64; 2]) -> usize
     let mut x = set::smallest(s);
     let mut ahead = set::intersection(under[x], s);
     while set::inhabited(ahead) {
-        let y = set::smallest(ahead);
+        let y = set::largest(ahead);
         let fewer = set::intersection(under[y], s);
         x = y;
         ahead = fewer;

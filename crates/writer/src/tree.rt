@@ -5,45 +5,55 @@ ghost use Prim.Native.Nat.{ℕ, _+_, _-_, _<_, _≤_};
 ghost use mathlib.Core.Path.{_≡_};
 ghost use mathlib.Core.Bool.{true, false, _&&_, _||_, not};
 ghost use lib.Dec.{eqb, ltb};
-ghost use mathlib.Core.List.{List, _++_, map};
+ghost use mathlib.Core.List.{_++_};
 ghost use lib.ListN.{length, take, set};
-ghost use Rattle.relation.specs.Table.{has, members, holds, Inside};
+ghost use Rattle.relation.specs.Table.{members, holds, Inside};
 ghost use Rattle.poset.specs.Order.{Strict};
 ghost use Rattle.poset.specs.Decompose.{treeOf};
-ghost use Rattle.writer.specs.Tokens.{ShapeOf};
+ghost use Rattle.writer.specs.Tokens.{noShape, shape, shaped};
 ghost use Rattle.writer.specs.Parts.{Jobs, Partial, Cut, closeOf};
-ghost use Rattle.writer.specs.Stack.{entries, jobsOf, spreadOut, startAt, Stacks, groupField};
+ghost use Rattle.writer.specs.Stack.{entries, jobsOf, spreadOut, startAt, Stacks, groupField, lead, numberOf};
+ghost use Rattle.writer.specs.Stack.{entryAt, setsOf, Apart, Opens, opened, FirstEntry};
 
-// The parts of a group onto the stack, the first on top: each with its start in the reverse sequence and with the kind of group
-// that it is to become. A series goes from left to right there, a parallel group from right to left.
+// A group: whether it is a series, where it begins in the reverse sequence, and how many jobs it has.
+pub struct Group {
+    pub series: bool,
+    pub start: usize,
+    pub whole: usize,
+}
+
+// The parts of a group onto the stack, the first on top: each with the kind of group that it is to become, and with its component
+// number, where it begins in the reverse sequence, at its smallest job. A series goes from left to right there, a parallel group
+// from right to left.
 fn push(
     parts: &[[u64; 2]; 128],
     count: usize,
-    series: bool,
-    start: usize,
-    whole: usize,
+    g: Group,
     stack: &mut [[u64; 2]; 128],
-    starts: &mut [usize; 128],
+    numbers: &mut [usize; 128],
     kinds: &mut [bool; 128],
     height: usize,
 ) -> usize
-    requires { ⌜ (count ≤ 128) × (height + count ≤ 128) × (start + whole ≤ 128) ⌝ }
-    requires { ⌜ (length (now parts) ≡ 128) × (jobsOf (take count (now parts)) ≡ whole) ⌝ }
-    requires { ⌜ Stacks (now stack) (now starts) (now kinds) ⌝ }
+    requires { ⌜ (count ≤ 128) × (height + count ≤ 128) × (g .start + g .whole ≤ 128) ⌝ }
+    requires { ⌜ (length (now parts) ≡ 128) × (jobsOf (take count (now parts)) ≡ g .whole) ⌝ }
+    requires { ⌜ Stacks (now stack) (now numbers) (now kinds) ⌝ }
+    requires { ⌜ Apart (take count (now parts) ++ setsOf (entries (now stack) (now numbers) (now kinds) height)) ⌝ }
     ensures { λ r. ⌜ r ≡ height + count ⌝ }
-    ensures { λ r. ⌜ Stacks (now (stack .exit)) (now (starts .exit)) (now (kinds .exit)) ⌝ }
-    ensures { λ r. ⌜ entries (now (stack .exit)) (now (starts .exit)) (now (kinds .exit)) (height + count)
-        ≡ spreadOut series start whole (take count (now (parts .entry)))
-        ++ entries (now (stack .entry)) (now (starts .entry)) (now (kinds .entry)) height ⌝ }
+    ensures { λ r. ⌜ Stacks (now (stack .exit)) (now (numbers .exit)) (now (kinds .exit)) ⌝ }
+    ensures { λ r. ⌜ entries (now (stack .exit)) (now (numbers .exit)) (now (kinds .exit)) (height + count)
+        ≡ spreadOut (g .series) (g .start) (g .whole) (take count (now (parts .entry)))
+        ++ entries (now (stack .entry)) (now (numbers .entry)) (now (kinds .entry)) height ⌝ }
 {
     let mut i = count;
     let mut top = height;
     let mut later = 0;
+    let series = g.series;
     while 0 < i {
         i -= 1;
         let part = parts[i];
         let size = set::size(part);
-        starts[top] = start_of(series, start, whole, later, size);
+        let job = set::smallest(part);
+        numbers[job] = start_of(g, later, size);
         stack[top] = part;
         kinds[top] = !series;
         later += size;
@@ -52,15 +62,15 @@ fn push(
     top
 }
 
-fn start_of(series: bool, start: usize, whole: usize, later: usize, size: usize) -> usize
-    requires { ⌜ start + whole ≤ 128 ⌝ }
-    requires { ⌜ later + size ≤ whole ⌝ }
-    ensures { λ r. ⌜ r ≡ startAt series start whole later size ⌝ }
+fn start_of(g: Group, later: usize, size: usize) -> usize
+    requires { ⌜ g .start + g .whole ≤ 128 ⌝ }
+    requires { ⌜ later + size ≤ g .whole ⌝ }
+    ensures { λ r. ⌜ r ≡ startAt (g .series) (g .start) (g .whole) later size ⌝ }
 {
-    if series {
-        start + whole - later - size
+    if g.series {
+        g.start + g.whole - later - size
     } else {
-        start + later
+        g.start + later
     }
 }
 
@@ -72,22 +82,25 @@ pub struct Progress {
     pub placed: usize,
 }
 
-// A single job: its field, and its place in both sequences.
+// The top set is a single job: its field, and its place in both sequences.
 fn put_leaf(
     fields: &mut [u16; 256],
     forward: &mut [u8; 128],
     reverse: &mut [u8; 128],
-    x: usize,
-    start: usize,
+    numbers: &[usize; 128],
+    s: [u64; 2],
     p: Progress,
 ) -> Progress
-    requires { ⌜ (x < 128) × (start < 128) × (p .count < 256) × (p .placed < 128) × (0 < p .height) ⌝ }
+    requires { ⌜ (0 < length (members s)) × (numberOf (now numbers) s < 128) ⌝ }
+    requires { ⌜ (p .count < 256) × (p .placed < 128) × (0 < p .height) ⌝ }
     ensures { λ r. ⌜ r .height + 1 ≡ p .height ⌝ }
     ensures { λ r. ⌜ (r .count ≡ p .count + 1) × (r .groups ≡ p .groups) × (r .placed ≡ p .placed + 1) ⌝ }
-    ensures { λ r. ⌜ (now (fields .exit) ≡ set (now (fields .entry)) (p .count) x)
-        × (now (forward .exit) ≡ set (now (forward .entry)) (p .placed) x)
-        × (now (reverse .exit) ≡ set (now (reverse .entry)) start x) ⌝ }
+    ensures { λ r. ⌜ (now (fields .exit) ≡ set (now (fields .entry)) (p .count) (lead s))
+        × (now (forward .exit) ≡ set (now (forward .entry)) (p .placed) (lead s))
+        × (now (reverse .exit) ≡ set (now (reverse .entry)) (numberOf (now (numbers .entry)) s) (lead s)) ⌝ }
 {
+    let x = set::smallest(s);
+    let start = numbers[x];
     let count = p.count;
     let placed = p.placed;
     fields[count] = (x % 65536) as u16;
@@ -135,6 +148,38 @@ fn put_group(
     }
 }
 
+// The top set becomes a group: its parts are spread out in its place.
+fn spread(
+    parts: &[[u64; 2]; 128],
+    count: usize,
+    stack: &mut [[u64; 2]; 128],
+    numbers: &mut [usize; 128],
+    kinds: &mut [bool; 128],
+    top: usize,
+) -> usize
+    requires { ⌜ (count ≤ 128) × (top + count ≤ 128) × (top < 128) ⌝ }
+    requires { ⌜ (length (now parts) ≡ 128) × Stacks (now stack) (now numbers) (now kinds) ⌝ }
+    requires { ⌜ Opens (entryAt (now stack) (now numbers) (now kinds) top) (entries (now stack) (now numbers) (now kinds) top)
+        (take count (now parts)) ⌝ }
+    ensures { λ r. ⌜ r ≡ top + count ⌝ }
+    ensures { λ r. ⌜ Stacks (now (stack .exit)) (now (numbers .exit)) (now (kinds .exit)) ⌝ }
+    ensures { λ r. ⌜ entries (now (stack .exit)) (now (numbers .exit)) (now (kinds .exit)) (top + count)
+        ≡ opened (entryAt (now (stack .entry)) (now (numbers .entry)) (now (kinds .entry)) top) (take count (now (parts .entry)))
+        ++ entries (now (stack .entry)) (now (numbers .entry)) (now (kinds .entry)) top ⌝ }
+{
+    let s = stack[top];
+    let series = kinds[top];
+    let job = set::smallest(s);
+    let start = numbers[job];
+    let whole = set::size(s);
+    let g = Group {
+        series,
+        start,
+        whole,
+    };
+    push(parts, count, g, stack, numbers, kinds, top)
+}
+
 // The parts of a set for a group of this kind.
 fn split_as(
     tied: &[[u64; 2]; 128],
@@ -155,6 +200,28 @@ fn split_as(
     } else {
         parts::split(tied, under, false, s, parts)
     }
+}
+
+// All jobs on the stack, a series group if they come apart so; and their parts as of a series.
+fn first_entry(
+    free: &[[u64; 2]; 128],
+    under: &[[u64; 2]; 128],
+    n: usize,
+    parts: &mut [[u64; 2]; 128],
+    stack: &mut [[u64; 2]; 128],
+    kinds: &mut [bool; 128],
+) -> usize
+    requires { ⌜ n ≤ 128 ⌝ }
+    requires { ⌜ Partial (holds (now under)) ⌝ }
+    requires { ⌜ length (now parts) ≡ 128 ⌝ }
+    ensures { λ r. ⌜ FirstEntry n (holds (now (free .entry))) (holds (now (under .entry))) (now (stack .entry)) (now (stack .exit))
+        (now (kinds .entry)) (now (kinds .exit)) (now (parts .exit)) r ⌝ }
+{
+    let all = set::all_below(n);
+    let first = parts::split(free, under, true, all, parts);
+    stack[0] = all;
+    kinds[0] = 1 < first;
+    first
 }
 
 // Which jobs are comparable, among those below n.
@@ -194,7 +261,7 @@ pub struct Shape {
 }
 
 fn no_shape() -> Shape
-    ensures { λ r. ⌜ r .ok ≡ false ⌝ }
+    ensures { λ r. ⌜ r ≡ noShape ⌝ }
 {
     Shape {
         ok: false,
@@ -206,68 +273,10 @@ fn no_shape() -> Shape
     }
 }
 
-// A set of two jobs or more that cannot be taken apart, as its kind asks, has an N.
-pub fn shape_of(after: &[[u64; 2]; 128], under: &[[u64; 2]; 128], n: usize) -> Shape
-    requires { ⌜ (0 < n) × (n ≤ 128) ⌝ }
-    requires { ⌜ Strict n (holds (now after)) ⌝ }
-    requires { ⌜ Inside n (now after) ⌝ }
-    requires { ⌜ ((u v : ℕ) → holds (now under) u v ≡ holds (now after) v u) ⌝ }
-    ensures { λ r. ⌜ ShapeOf (treeOf n (holds (now (after .entry)))) r ⌝ }
+// All is written.
+fn shaped(p: Progress, fields: [u16; 256], forward: [u8; 128], reverse: [u8; 128]) -> Shape
+    ensures { λ r. ⌜ r ≡ shaped p fields forward reverse ⌝ }
 {
-    let tied = comparable(after, under, n);
-    let free = incomparable(&tied, n);
-    let all = set::all_below(n);
-    let mut parts = [[0; 2]; 128];
-    let first = split_as(&tied, &free, under, true, all, &mut parts);
-    let mut stack = [[0; 2]; 128];
-    let mut starts = [0; 128];
-    let mut kinds = [false; 128];
-    stack[0] = all;
-    kinds[0] = 1 < first;
-    let mut fields = [0; 256];
-    let mut forward = [0; 128];
-    let mut reverse = [0; 128];
-    let mut p = Progress {
-        height: 1,
-        count: 0,
-        groups: 0,
-        placed: 0,
-    };
-    while 0 < p.height {
-        let top = p.height - 1;
-        let s = stack[top];
-        let size = set::size(s);
-        if size == 1 {
-            let next = put_leaf(
-                &mut fields,
-                &mut forward,
-                &mut reverse,
-                set::smallest(s),
-                starts[top],
-                p,
-            );
-            p = next;
-        } else {
-            let series = kinds[top];
-            let count = split_as(&tied, &free, under, series, s, &mut parts);
-            if count < 2 {
-                return no_shape();
-            }
-            let height = push(
-                &parts,
-                count,
-                series,
-                starts[top],
-                size,
-                &mut stack,
-                &mut starts,
-                &mut kinds,
-                top,
-            );
-            let next = put_group(&mut fields, series, count, p, height);
-            p = next;
-        }
-    }
     Shape {
         ok: true,
         fields,
@@ -276,4 +285,54 @@ pub fn shape_of(after: &[[u64; 2]; 128], under: &[[u64; 2]; 128], n: usize) -> S
         forward,
         reverse,
     }
+}
+
+// A set of two jobs or more that cannot be taken apart, as its kind asks, has an N. All jobs become a series group if they come
+// apart so.
+pub fn shape_of(after: &[[u64; 2]; 128], under: &[[u64; 2]; 128], n: usize) -> Shape
+    requires { ⌜ (0 < n) × (n ≤ 128) ⌝ }
+    requires { ⌜ Strict n (holds (now after)) ⌝ }
+    requires { ⌜ Inside n (now after) ⌝ }
+    requires { ⌜ ((u v : ℕ) → holds (now under) u v ≡ holds (now after) v u) ⌝ }
+    ensures { λ r. ⌜ r ≡ shape (treeOf n (holds (now (after .entry)))) ⌝ }
+{
+    let tied = comparable(after, under, n);
+    let free = incomparable(&tied, n);
+    let mut parts = [[0; 2]; 128];
+    let mut stack = [[0; 2]; 128];
+    let mut numbers = [0; 128];
+    let mut kinds = [false; 128];
+    let mut fields = [0; 256];
+    let mut forward = [0; 128];
+    let mut reverse = [0; 128];
+    let first = first_entry(&free, under, n, &mut parts, &mut stack, &mut kinds);
+    let mut p = Progress {
+        height: 1,
+        count: 0,
+        groups: 0,
+        placed: 0,
+    };
+    if 1 < first {
+        let height = spread(&parts, first, &mut stack, &mut numbers, &mut kinds, 0);
+        let next = put_group(&mut fields, true, first, p, height);
+        p = next;
+    }
+    while 0 < p.height {
+        let top = p.height - 1;
+        let s = stack[top];
+        if set::size(s) == 1 {
+            let next = put_leaf(&mut fields, &mut forward, &mut reverse, &numbers, s, p);
+            p = next;
+        } else {
+            let series = kinds[top];
+            let count = split_as(&tied, &free, under, series, s, &mut parts);
+            if count < 2 {
+                return no_shape();
+            }
+            let height = spread(&parts, count, &mut stack, &mut numbers, &mut kinds, top);
+            let next = put_group(&mut fields, series, count, p, height);
+            p = next;
+        }
+    }
+    shaped(p, fields, forward, reverse)
 }

@@ -3,11 +3,10 @@ use crate::pack;
 use crate::tree;
 ghost use Prim.Native.Nat.{ℕ, _<_, _≤_};
 ghost use mathlib.Core.Path.{_≡_};
-ghost use mathlib.Core.Bool.{false};
 ghost use Rattle.poset.specs.Order.{Strict};
 ghost use Rattle.poset.specs.Decompose.{treeOf};
 ghost use Rattle.relation.specs.Table.{holds, Inside};
-ghost use Rattle.writer.specs.Written.{WrittenOf};
+ghost use Rattle.writer.specs.Written.{unwritten, written};
 
 // Whether there is a record; its bytes and groups, and the two sequences.
 pub struct Written {
@@ -20,7 +19,7 @@ pub struct Written {
 }
 
 fn unwritten() -> Written
-    ensures { λ r. ⌜ r .ok ≡ false ⌝ }
+    ensures { λ r. ⌜ r ≡ unwritten ⌝ }
 {
     Written {
         ok: false,
@@ -38,7 +37,7 @@ pub fn write_record(after: &[[u64; 2]; 128], under: &[[u64; 2]; 128], n: usize) 
     requires { ⌜ Strict n (holds (now after)) ⌝ }
     requires { ⌜ Inside n (now after) ⌝ }
     requires { ⌜ ((u v : ℕ) → holds (now under) u v ≡ holds (now after) v u) ⌝ }
-    ensures { λ r. ⌜ WrittenOf n (treeOf n (holds (now (after .entry)))) r ⌝ }
+    ensures { λ r. ⌜ r ≡ written n (treeOf n (holds (now (after .entry)))) ⌝ }
 {
     let shape = tree::shape_of(after, under, n);
     if !shape.ok {

@@ -1,6 +1,7 @@
 //! One input held against `second`, and the count of all of them.
 
 use crate::ffi::{self, Areas, Lent};
+use crate::generate::damages;
 use second::{packed, Outcome};
 use std::collections::{BTreeMap, HashSet};
 use std::fmt::Write;
@@ -195,7 +196,7 @@ impl Tally {
     }
 
     /// Reads the record of an accepted sheet or pair list; what comes back must
-    /// be what the analysis gave.
+    /// be what the analysis gave. Reads it damaged as well.
     pub fn read_back(&mut self, outcome: &Outcome) {
         if outcome.record.is_empty() {
             return;
@@ -207,6 +208,9 @@ impl Tally {
             ..outcome.clone()
         };
         assert!(back == same, "second itself reads back something else");
+        for damaged in damages(&outcome.record) {
+            self.compare(&Input::Record(damaged), 0, outcome.reduced.len() + 8);
+        }
     }
 
     fn count(&mut self, input: &Input, record_area: usize, reduced_area: usize, number: u64) {

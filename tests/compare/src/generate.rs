@@ -320,6 +320,30 @@ pub fn swap_jobs(record: &[u8], one: usize, other: usize) -> Vec<u8> {
     swapped
 }
 
+/// The record with one bit changed, with one byte changed, shortened, lengthened,
+/// and with two jobs exchanged. Where depends on the record alone.
+pub fn damages(record: &[u8]) -> Vec<Vec<u8>> {
+    let seed = record.iter().fold(1, |seed: u64, &byte| {
+        seed.wrapping_mul(0x100_0000_01b3) ^ byte as u64
+    });
+    let mut rng = Rng::new(seed);
+    let mut byte = record.to_vec();
+    let at = rng.below(byte.len());
+    byte[at] = byte[at].wrapping_add(rng.from(1, 255) as u8);
+    let mut longer = record.to_vec();
+    let more = if rng.percent(50) { 0 } else { rng.below(256) };
+    longer.push(more as u8);
+    let fields = job_fields(record);
+    let (one, other) = (rng.pick(&fields), rng.pick(&fields));
+    vec![
+        flip(record, rng.below(8 * record.len())),
+        byte,
+        record[..rng.below(record.len())].to_vec(),
+        longer,
+        swap_jobs(record, one, other),
+    ]
+}
+
 /// Bits written one after the other.
 #[derive(Default)]
 pub struct Bits(Vec<bool>);

@@ -1,5 +1,6 @@
-//! `ORDERSHEET_LIB_DIR=DIR cargo run --release --offline` holds the library in
-//! DIR against `second`; with `--features mock`, `second` against itself.
+//! `ORDERSHEET_LIB_DIR=DIR cargo run --release --offline` holds the libraries in
+//! DIR, as `rt staticlib desk` and `rt staticlib desk_tests` write them, against
+//! `second`; with `--features mock`, `second` against itself.
 //! `compare` runs every family, `compare WORD...` those whose names hold one of
 //! the words. The last line is `N passed, M failed`, N and M counting inputs: a
 //! sheet or pair list with two area lengths, or a record with one.

@@ -5,9 +5,6 @@ use Rattle.relation_bench.specs.Steps.{nothing, acyclic}
 use borrow.Author.Needs.{needs}
 use Rattle.relation_bench.proofs.acyclic.Statement.{statement}
 use Rattle.relation_bench.proofs.acyclic.Tie as tie
-use Rattle.relation_bench.proofs.acyclic.Reads as reads
-use Rattle.relation_bench.proofs.acyclic.Lts as lts
-use Rattle.relation.proofs.order.first_on_cycle.Reads as first-on-cycle-reads
 
 first-on-cycle-requires : tie.Need-first-on-cycle-requires
 first-on-cycle-requires c κs = search needs

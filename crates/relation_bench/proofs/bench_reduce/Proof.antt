@@ -18,14 +18,6 @@ use Rattle.relation_bench.proofs.Refusals.{fits-within, acyclic-strict,
 use Rattle.relation_bench.proofs.Refusals.{no-arcs, reduced-unfit, reduced-cyclic, reduced-crowded, reduced-given}
 use Rattle.relation_bench.proofs.bench_reduce.Statement.{statement}
 use Rattle.relation_bench.proofs.bench_reduce.Tie as tie
-use Rattle.relation_bench.proofs.bench_reduce.Reads as reads
-use Rattle.relation_bench.proofs.bench_reduce.Lts as lts
-use Rattle.relation.proofs.reduction.pair_count.Reads as pair-count-reads
-use Rattle.relation.proofs.reduction.reduced.Reads as reduced-reads
-use Rattle.relation.proofs.reduction.write_pairs.Reads as write-pairs-reads
-use Rattle.relation_bench.proofs.acyclic.Reads as acyclic-reads
-use Rattle.relation_bench.proofs.closed.Reads as closed-reads
-use Rattle.relation_bench.proofs.fits.Reads as fits-reads
 
 -- the arcs fit
 module _ (c : tie.Else1) where

@@ -5,10 +5,6 @@ use Rattle.relation.proofs.Chain.{table-inside, closure-before}
 use Rattle.relation.proofs.Warshall.{closure-inside}
 use Rattle.relation_bench.proofs.closed.Statement.{statement}
 use Rattle.relation_bench.proofs.closed.Tie as tie
-use Rattle.relation_bench.proofs.closed.Reads as reads
-use Rattle.relation_bench.proofs.closed.Lts as lts
-use Rattle.relation.proofs.arcs.table_of.Reads as table-of-reads
-use Rattle.relation.proofs.order.closure.Reads as closure-reads
 
 -- src/lib.rt:22:20
 table-of-requires : tie.Need-table-of-requires

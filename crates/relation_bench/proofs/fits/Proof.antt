@@ -7,9 +7,6 @@ use Rattle.relation_bench.specs.Steps.{nothing, fits}
 use borrow.Author.Needs.{needs}
 use Rattle.relation_bench.proofs.fits.Statement.{statement}
 use Rattle.relation_bench.proofs.fits.Tie as tie
-use Rattle.relation_bench.proofs.fits.Reads as reads
-use Rattle.relation_bench.proofs.fits.Lts as lts
-use Rattle.relation.proofs.arcs.first_outside.Reads as first-outside-reads
 
 first-outside-requires : tie.Need-first-outside-requires
 first-outside-requires c κs = search needs

@@ -1,15 +1,16 @@
 use borrow.Author.Needs.{needs}
+use borrow.Author.Tests.{not-false}
 use mathlib.Core.Path.{sym, subst}
 use native.Mathlib.Omega.{arith}
 use Rattle.poset.specs.Decompose.{treeOf}
 use Rattle.poset.proofs.Laws.{not-true}
 use Rattle.relation.specs.Table.{holds}
 use Rattle.relation.proofs.Chain.{reduced-inside}
-use Rattle.writer.proofs.Spelling.{doubled}
+use Rattle.writer.proofs.Spelling.{written-told, bytes-few, bytes-size}
 use Rattle.analysis.specs.Outcome.{decomposed}
 use Rattle.analysis.specs.Result.{rooms, Gives}
 use Rattle.analysis.proofs.Crossing.{gives-crossed}
-use Rattle.analysis.proofs.Taking.{written-tree, unwritten, count-few, gives-9, gives-10, gives-0}
+use Rattle.analysis.proofs.Taking.{count-few, gives-9, gives-10, gives-0}
 use Rattle.analysis.proofs.order.take_apart.Statement.{statement}
 use Rattle.analysis.proofs.order.take_apart.Tie as tie
 use Rattle.analysis.proofs.order.take_apart.Reads as reads
@@ -45,7 +46,7 @@ returns c =
     let b = s .args .bytes .now in
     let ar = s .args .area .now in
     let w = c .before .before .before .before .before .write-record in
-    let bare = unwritten n (treeOf n r) (w .result) (w .ensures) (not-true (w .result .ok) (c .before .before .before .if1 .taken)) in
+    let bare = written-told n (treeOf n r) (w .result) (w .ensures) .1 (not-true (w .result .ok) (c .before .before .before .if1 .taken)) in
     subst (λ a. Gives (decomposed (rooms b ar) n r) b ar a b ar) (sym (c .crossed .ensures)) (gives-crossed (rooms b ar) n r b ar bare)
 
 -- src/order.rt:51:19
@@ -73,12 +74,12 @@ returns-2 c =
     let b = s .args .bytes .now in
     let ar = s .args .area .now in
     let w = c .before .before .before .before .before .before .before .before .write-record in
-    let (t, e, writes) = written-tree n (treeOf n r) (w .result) (w .ensures)
-    (doubled (w .result .ok) (c .before .before .before .before .before .before .if1 .left)) in
+    let (t, e, is) = written-told n (treeOf n r) (w .result) (w .ensures) .0
+    (not-false (w .result .ok) (c .before .before .before .before .before .before .if1 .left)) in
     let red = c .before .before .before .before .before .reduced in
     let m = c .before .before .before .pair-count in
     subst (λ a. Gives (decomposed (rooms b ar) n r) b ar a b ar) (sym (c .refused .ensures))
-    (gives-9 n r (s .pre .1 .0) t e (w .result) writes (red .result) (red .ensures) (m .result) (m .ensures) b ar
+    (gives-9 n (s .pre .0 .1) r (s .pre .1 .0) t e (w .result) is (red .result) (red .ensures) (m .result) (m .ensures) b ar
     (c .before .if2 .taken))
 
 -- src/order.rt:56:21
@@ -110,12 +111,12 @@ returns-3 c =
     let b = s .args .bytes .now in
     let ar = s .args .area .now in
     let w = test .write-record in
-    let (t, e, writes) = written-tree n (treeOf n r) (w .result) (w .ensures)
-    (doubled (w .result .ok) (c .before .before .before .before .before .before .before .if1 .left)) in
+    let (t, e, is) = written-told n (treeOf n r) (w .result) (w .ensures) .0
+    (not-false (w .result .ok) (c .before .before .before .before .before .before .before .if1 .left)) in
     let red = c .before .before .before .before .before .before .reduced in
     let m = c .before .before .before .before .pair-count in
     subst (λ a. Gives (decomposed (rooms b ar) n r) b ar a b ar) (sym (c .refused2 .ensures))
-    (gives-10 n r (s .pre .1 .0) t e (w .result) writes (red .result) (red .ensures) (m .result) (m .ensures) b ar
+    (gives-10 n (s .pre .0 .1) r (s .pre .1 .0) t e (w .result) is (red .result) (red .ensures) (m .result) (m .ensures) b ar
     (c .before .before .if2 .left) (c .before .if3 .taken))
 
 -- src/order.rt:62:5
@@ -128,10 +129,11 @@ copy-requires c κs =
     let b = s .args .bytes .now in
     let ar = s .args .area .now in
     let w = test .before .before .before .before .write-record in
-    let (t, e, writes) = written-tree n (treeOf n r) (w .result) (w .ensures)
-    (doubled (w .result .ok) (test .before .before .if1 .left)) in
-    let red = test .before .reduced in
-    (writes .few, writes .size, c .before .before .before .before .before .before .if2 .left)
+    let (t, e, is) = written-told n (treeOf n r) (w .result) (w .ensures) .0
+    (not-false (w .result .ok) (test .before .before .if1 .left)) in
+    let few = bytes-few n (s .pre .0 .1) r (s .pre .1 .0) t e (w .result) is in
+    let size = bytes-size n (s .pre .0 .1) r (s .pre .1 .0) t e (w .result) is in
+    (few, size, c .before .before .before .before .before .before .if2 .left)
 
 -- src/order.rt:63:5
 write-pairs-requires : tie.Need-write-pairs-requires
@@ -161,11 +163,11 @@ returns-4 c =
     let b = s .args .bytes .now in
     let ar = s .args .area .now in
     let w = test .before .before .before .before .before .before .before .before .before .before .before .before .write-record in
-    let (t, e, writes) = written-tree n (treeOf n r) (w .result) (w .ensures)
-    (doubled (w .result .ok) (test .before .before .before .before .before .before .before .before .before .before .if1 .left)) in
+    let (t, e, is) = written-told n (treeOf n r) (w .result) (w .ensures) .0
+    (not-false (w .result .ok) (test .before .before .before .before .before .before .before .before .before .before .if1 .left)) in
     let red = test .before .before .before .before .before .before .before .before .before .reduced in
     let m = test .before .before .before .before .before .before .before .pair-count in
-    gives-0 n r (s .pre .1 .0) t e (w .result) writes (red .result) (red .ensures) (m .result) (m .ensures) b ar
+    gives-0 n (s .pre .0 .1) r (s .pre .1 .0) t e (w .result) is (red .result) (red .ensures) (m .result) (m .ensures) b ar
     (test .before .before .before .before .before .if2 .left) (test .before .before .before .before .if3 .left)
     _ _ (c .before .before .before .before .before .before .before .copy .ensures) (c .before .before .write-pairs .ensures)
 

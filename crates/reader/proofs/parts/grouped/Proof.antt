@@ -4,6 +4,7 @@ use mathlib.Core.Path.{refl}
 use native.Mathlib.Omega.{arith}
 use borrow.Author.Tests.{not-true, not-false}
 use Rattle.poset.proofs.Laws.{clash}
+use Rattle.reader.proofs.Refusals.{refused-group}
 use Rattle.reader.proofs.parts.grouped.Statement.{statement}
 use Rattle.reader.proofs.parts.grouped.Tie as tie
 
@@ -11,16 +12,13 @@ refused-requires : tie.Need-refused-requires
 refused-requires c κs = search needs
 
 returns : tie.Need-returns
-returns c = record {
-  some = λ e. absurd (clash e (c .refused .ensures));
-  none = λ _ ok _. clash ok (not-true _ (c .before .if1 .taken));
-}
+returns c = refused-group (c .refused .ensures) (λ ok _. clash ok (not-true _ (c .before .if1 .taken)))
 
 refused-requires-2 : tie.Need-refused-requires-2
 refused-requires-2 c κs = search needs
 
 returns-2 : tie.Need-returns-2
-returns-2 c = record { some = λ e. absurd (clash e (c .refused2 .ensures)); none = λ _ _ l. omega (arith, c .before .if2 .taken) }
+returns-2 c = refused-group (c .refused2 .ensures) (λ _ l. omega (arith, c .before .if2 .taken))
 
 add-t4 : tie.Need-add-t4
 add-t4 c = omega (arith, c .before .before .before .before .before .pre (not-false _ (c .before .before .before .if1 .left)))

@@ -3,6 +3,7 @@ use mathlib.Core.Path.{refl}
 use native.Mathlib.Omega.{arith}
 use borrow.Author.Needs.{needs}
 use Rattle.poset.proofs.Laws.{clash}
+use Rattle.reader.proofs.Refusals.{refused-leaf}
 use Rattle.reader.proofs.parts.leaf.Statement.{statement}
 use Rattle.reader.proofs.parts.leaf.Tie as tie
 
@@ -10,19 +11,19 @@ refused-requires : tie.Need-refused-requires
 refused-requires c κs = search needs
 
 returns : tie.Need-returns
-returns c = record { some = λ e. absurd (clash e (c .refused .ensures)); none = λ _ inside above unseen room. omega (arith, c .before .if1 .taken) }
+returns c = refused-leaf (c .refused .ensures) (λ inside above unseen room. omega (arith, c .before .if1 .taken))
 
 refused-requires-2 : tie.Need-refused-requires-2
 refused-requires-2 c κs = search needs
 
 returns-2 : tie.Need-returns-2
-returns-2 c = record { some = λ e. absurd (clash e (c .refused2 .ensures)); none = λ _ inside above unseen room. omega (arith, c .before .if2 .taken) }
+returns-2 c = refused-leaf (c .refused2 .ensures) (λ inside above unseen room. omega (arith, c .before .if2 .taken))
 
 refused-requires-3 : tie.Need-refused-requires-3
 refused-requires-3 c κs = search needs
 
 returns-3 : tie.Need-returns-3
-returns-3 c = record { some = λ e. absurd (clash e (c .refused3 .ensures)); none = λ _ inside above unseen room. omega (arith, c .before .if3 .taken) }
+returns-3 c = refused-leaf (c .refused3 .ensures) (λ inside above unseen room. omega (arith, c .before .if3 .taken))
 
 element-copy-out-if4 : tie.Need-element-copy-out-if4
 element-copy-out-if4 c = search needs
@@ -31,7 +32,7 @@ refused-requires-4 : tie.Need-refused-requires-4
 refused-requires-4 c κs = search needs
 
 returns-4 : tie.Need-returns-4
-returns-4 c = record { some = λ e. absurd (clash e (c .refused4 .ensures)); none = λ _ inside above unseen room. c .before .if4 .taken unseen }
+returns-4 c = refused-leaf (c .refused4 .ensures) (λ inside above unseen room. c .before .if4 .taken unseen)
 
 element-write-seen : tie.Need-element-write-seen
 element-write-seen c = search needs

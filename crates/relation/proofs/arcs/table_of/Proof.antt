@@ -1,15 +1,15 @@
 -- `relation::arcs::table_of` meets its contract.
-use Prim.Native.Nat.{ℕ}
-use mathlib.Core.List.{List}
-use Prim.Native.Nat.{_+_, _-_, _<_}
-use native.Mathlib.Omega.{arith}
-use lib.ListN.{length, getD}
-use Rattle.relation.proofs.Flat.{Built, built-none, first-below, second-below, built-next, built-end}
 use borrow.Author.Needs.{needs}
+use Prim.Native.Nat.{ℕ, _+_, _-_, _/_, _%_, _<_}
+use native.Mathlib.Omega.{arith}
+use mathlib.Core.Path.{_∙_}
+use mathlib.Core.List.{List, []}
+use lib.ListN.{length, getD, length-set}
+use Rattle.relation.proofs.Words.{one-shifted}
+use Rattle.relation.proofs.Sets.{put-in}
+use Rattle.relation.proofs.Flat.{Built, built-none, first-below, second-below, built-next, built-end}
 use Rattle.relation.proofs.arcs.table_of.Statement.{statement}
 use Rattle.relation.proofs.arcs.table_of.Tie as tie
-use Rattle.relation.proofs.set.only.Reads as only-reads
-use Rattle.relation.proofs.set.union.Reads as union-reads
 
 abbrev Inv-loop : tie.InvT-loop
 Inv-loop arcs t₀ i₀ t i = Built arcs t i
@@ -20,7 +20,7 @@ abbrev μ-loop : tie.MeasureT-loop
 -- the two jobs of an arc that is read
 module _ (c : tie.In-loop Inv-loop μ-loop) where
   abbrev arcs : List ℕ
-  arcs = c .before .before .before .args .arcs .now
+  arcs = c .before .before .args .arcs .now
 
   jobs : (getD arcs (c .before .loop .i) 0 < 128) × (getD arcs (c .before .loop .i + 1) 0 < 128)
   jobs =
@@ -28,7 +28,7 @@ module _ (c : tie.In-loop Inv-loop μ-loop) where
       (first-below arcs (l .t) (l .i) (l .inv) (c .loop-test .taken), second-below arcs (l .t) (l .i) (l .inv) (c .loop-test .taken))
 
 loop-holds : tie.Need-loop-holds Inv-loop μ-loop
-loop-holds c = built-none (c .before .args .arcs .now) (c .before .pre)
+loop-holds c = built-none (c .args .arcs .now) (c .pre)
 
 add-loop : tie.Need-add-loop Inv-loop μ-loop
 add-loop c = omega arith
@@ -54,23 +54,26 @@ shared-slice-read-v c = search needs
 cast-v : tie.Need-cast-v Inv-loop μ-loop
 cast-v c = omega (arith, jobs (c .before .before))
 
-mul-union : tie.Need-mul-union Inv-loop μ-loop
-mul-union c = omega (arith, jobs (c .before .before))
-
-array-copy-out-union : tie.Need-array-copy-out-union Inv-loop μ-loop
-array-copy-out-union c = omega (arith, jobs (c .before .before))
-
-only-requires : tie.Need-only-requires Inv-loop μ-loop
-only-requires c κs = omega (arith, jobs (c .before .before .before))
-
-union-requires : tie.Need-union-requires Inv-loop μ-loop
-union-requires c κs = search needs
+shl-t : tie.Need-shl-t Inv-loop μ-loop
+shl-t c = search needs
 
 mul-t : tie.Need-mul-t Inv-loop μ-loop
-mul-t c = omega (arith, jobs (c .before .before .before .before .before))
+mul-t c = omega (arith, jobs (c .before .before))
 
-array-set-from-t : tie.Need-array-set-from-t Inv-loop μ-loop
-array-set-from-t c = omega (arith, jobs (c .before .before .before .before .before))
+mul-t-2 : tie.Need-mul-t-2 Inv-loop μ-loop
+mul-t-2 c = omega (arith, jobs (c .before .before))
+
+index-1-t : tie.Need-index-1-t Inv-loop μ-loop
+index-1-t c = omega (arith, jobs (c .before .before))
+
+index-2-t : tie.Need-index-2-t Inv-loop μ-loop
+index-2-t c = omega (arith, jobs (c .before .before))
+
+index-1-t-2 : tie.Need-index-1-t-2 Inv-loop μ-loop
+index-1-t-2 c = omega (arith, jobs (c .before .before .before))
+
+index-2-t-2 : tie.Need-index-2-t-2 Inv-loop μ-loop
+index-2-t-2 c = omega (arith, jobs (c .before .before .before))
 
 add-i : tie.Need-add-i Inv-loop μ-loop
 add-i c = search needs
@@ -80,14 +83,16 @@ loop-less c = omega arith
 
 loop-again : tie.Need-loop-again Inv-loop μ-loop
 loop-again c =
-    let q = c .before .before .before .before .before in
+    let q = c .before .before .before in
     let l = q .before .loop in
-    built-next (q .before .before .before .args .arcs .now) (l .t) (l .i) (l .inv) (q .loop-test .taken) (c .union .result) (c .before .only .result)
-    (c .union .ensures)
-    (c .before .only .ensures)
+    let u = getD (arcs q) (l .i) 0 in
+    let v = getD (arcs q) (l .i + 1) 0 in
+    let two = l .inv .words u (jobs q .0) in
+    built-next (arcs q) (l .t) (l .i) (l .inv) (q .loop-test .taken) _ (length-set (getD (l .t) u []) (v / 64) _ ∙ two)
+    (λ x. rw (one-shifted (v % 64) (omega arith)) (put-in (getD (l .t) u []) v two (jobs q .1) x))
 
 returns : tie.Need-returns Inv-loop μ-loop
-returns c = built-end (c .before .before .before .args .arcs .now) (c .before .loop .t) (c .before .loop .i) (c .before .loop .inv) (c .loop-test .left)
+returns c = built-end (c .before .before .args .arcs .now) (c .before .loop .t) (c .before .loop .i) (c .before .loop .inv) (c .loop-test .left)
 
 pub table-of-spec : {M : Type 1} → statement M
 table-of-spec =
@@ -104,12 +109,13 @@ table-of-spec =
     mul-v
     shared-slice-read-v
     cast-v
-    mul-union
-    array-copy-out-union
-    only-requires
-    union-requires
+    shl-t
     mul-t
-    array-set-from-t
+    mul-t-2
+    index-1-t
+    index-2-t
+    index-1-t-2
+    index-2-t-2
     add-i
     loop-less
     loop-again

@@ -1,60 +1,64 @@
 -- `relation::order::closure` meets its contract.
-use Prim.Native.Nat.{_-_}
-use native.Mathlib.Omega.{arith}
-use Rattle.relation.proofs.Warshall.{Closed, closed-none, closed-inside, closed-next, closed-end}
 use borrow.Author.Needs.{needs}
+use Prim.Native.Nat.{ℕ, _-_, _<_}
+use native.Mathlib.Omega.{arith}
+use mathlib.Core.Path.{_≡_, sym, _∙_}
+use mathlib.Core.Bool.{true}
+use Rattle.relation.specs.Table.{columns}
+use Rattle.relation.proofs.Columns.{zeros}
+use Rattle.relation.proofs.Warshall.{Closed, closed-none, closed-inside, closed-next, closed-end}
 use Rattle.relation.proofs.order.closure.Statement.{statement}
 use Rattle.relation.proofs.order.closure.Tie as tie
-use Rattle.relation.proofs.order.closure.Reads as reads
-use Rattle.relation.proofs.order.closure.Lts as lts
-use Rattle.relation.proofs.order.pass.Reads as pass-reads
 
 abbrev Inv-loop : tie.InvT-loop
-Inv-loop n r₀ k₀ r k = Closed r₀ r n k
+Inv-loop n low₀ high₀ k₀ low high k = Closed (columns low₀ high₀) low high n k
 
 abbrev μ-loop : tie.MeasureT-loop
-μ-loop n r₀ k₀ r k = n - k
+μ-loop n low₀ high₀ k₀ low high k = n - k
 
--- src/order.rt:34:5
+split-requires : tie.Need-split-requires Inv-loop μ-loop
+split-requires c κs = ((search needs, search needs, search needs), (c .before .before .before .pre .1, λ u. (zeros 128 u, zeros 128 u)))
+
 loop-holds : tie.Need-loop-holds Inv-loop μ-loop
-loop-holds c = closed-none (c .args .t) (c .args .n) (search needs)
+loop-holds c = closed-none _ _ _ (c .split .ensures .0)
 
--- src/order.rt:35:21
-mul-after : tie.Need-mul-after Inv-loop μ-loop
-mul-after c = search needs
+-- what the columns hold is inside, as it is what the table holds
+inside
+    : (d : tie.After-split Inv-loop μ-loop) (u v : ℕ) → columns (d .split .last .1 .0) (d .split .last .1 .1 .0) u v ≡ true
+    → (u < d .before .before .before .before .args .n) × (v < d .before .before .before .before .args .n)
+inside d u v e = d .before .before .before .before .pre .1 u v (sym (d .split .ensures .1 u v) ∙ e)
 
--- src/order.rt:35:21
-array-copy-out-after : tie.Need-array-copy-out-after Inv-loop μ-loop
-array-copy-out-after c = search needs
-
--- src/order.rt:36:9
 pass-requires : tie.Need-pass-requires Inv-loop μ-loop
 pass-requires c κs =
-    let l = c .before .before .before .loop in
-    let s = c .before .before .before .before in
-    ((search needs, search needs, l .inv .rows), closed-inside (s .args .t) (s .args .n) (l .r) (l .k) (l .inv) (s .pre .1))
+    let l = c .before .before .before .loop in (
+      (search needs, search needs, l .inv .rows .0, l .inv .rows .1),
+      closed-inside _ _ (l .low) (l .high) (l .k) (l .inv) (inside (c .before .before .before .before)),
+    )
 
--- src/order.rt:34:9
 add-k : tie.Need-add-k Inv-loop μ-loop
 add-k c = search needs
 
--- src/order.rt:34:5
 loop-less : tie.Need-loop-less Inv-loop μ-loop
 loop-less c = omega arith
 
--- src/order.rt:34:5
 loop-again : tie.Need-loop-again Inv-loop μ-loop
 loop-again c =
     let l = c .before .before .before .before .loop in
-    let s = c .before .before .before .before .before in
-    closed-next (s .args .t) (s .args .n) (l .r) (l .k) (l .inv) (search needs) (c .pass .last .0) (c .pass .ensures .0) (c .pass .ensures .1)
+    closed-next _ _ (l .low) (l .high) (l .k) (l .inv) (search needs) _ _ (c .pass .ensures .0) (c .pass .ensures .1)
 
--- src/order.rt:28:1
+table-requires : tie.Need-table-requires Inv-loop μ-loop
+table-requires c κs =
+    let l = c .before .before .before .loop in
+    (search needs, closed-inside _ _ (l .low) (l .high) (l .k) (l .inv) (inside (c .before .before .before .before)))
+
 returns : tie.Need-returns Inv-loop μ-loop
 returns c =
-    let l = c .before .loop in
-    let s = c .before .before in
-    closed-end (s .args .t) (s .args .n) (l .r) (l .k) (l .inv) (c .loop-test .left)
+    let e = c .before .before .before in
+    let l = e .before .loop in
+    let d = e .before .before in
+    λ u v.
+    c .table .ensures u v
+    ∙ closed-end _ _ (l .low) (l .high) (l .k) (l .inv) (e .loop-test .left) (d .before .before .before .before .args .t1) (d .split .ensures .1) u v
 
 pub closure-spec : {M : Type 1} → statement M
 closure-spec =
@@ -62,11 +66,11 @@ closure-spec =
     (tie.spec
     Inv-loop
     μ-loop
+    split-requires
     loop-holds
-    mul-after
-    array-copy-out-after
     pass-requires
     add-k
     loop-less
     loop-again
+    table-requires
     returns)

@@ -11,7 +11,6 @@ use Rattle.relation.proofs.Lists.{Looked, looked-none, looked-hit, look
 use borrow.Author.Needs.{needs}
 use Rattle.relation.proofs.order.first_on_cycle.Statement.{statement}
 use Rattle.relation.proofs.order.first_on_cycle.Tie as tie
-use Rattle.relation.proofs.set.contains.Reads as contains-reads
 
 -- job u, where it is before itself
 abbrev at : List (List ℕ) → ℕ → Option ℕ

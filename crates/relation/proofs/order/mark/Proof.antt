@@ -7,11 +7,6 @@ use Rattle.relation.proofs.Mirror.{Marked, marked-none, marked-next, ma
 use borrow.Author.Needs.{needs}
 use Rattle.relation.proofs.order.mark.Statement.{statement}
 use Rattle.relation.proofs.order.mark.Tie as tie
-use Rattle.relation.proofs.set.inhabited.Reads as inhabited-reads
-use Rattle.relation.proofs.set.only.Reads as only-reads
-use Rattle.relation.proofs.set.smallest.Reads as smallest-reads
-use Rattle.relation.proofs.set.union.Reads as union-reads
-use Rattle.relation.proofs.set.without_smallest.Reads as without-smallest-reads
 
 abbrev Inv-loop : tie.InvT-loop
 Inv-loop t₀ u one rest₀ t rest = Marked t₀ u rest₀ t rest

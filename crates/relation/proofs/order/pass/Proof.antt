@@ -1,87 +1,82 @@
 -- `relation::order::pass` meets its contract.
-use Prim.Native.Nat.{_-_}
-use native.Mathlib.Omega.{arith}
-use Rattle.relation.proofs.Warshall.{Passed, passed-none, passed-next, passed-end}
 use borrow.Author.Needs.{needs}
+use Prim.Native.Nat.{_-_}
+use mathlib.Core.Path.{sym, _∙_}
+use Rattle.poset.proofs.Laws.{not-true}
+use Rattle.relation.proofs.Warshall.{step-idle, step-clear, step-joined, in-low, in-high}
 use Rattle.relation.proofs.order.pass.Statement.{statement}
 use Rattle.relation.proofs.order.pass.Tie as tie
-use Rattle.relation.proofs.order.pass.Reads as reads
-use Rattle.relation.proofs.order.pass.Lts as lts
-use Rattle.relation.proofs.set.contains.Reads as contains-reads
-use Rattle.relation.proofs.set.union_if.Reads as union-if-reads
 
-abbrev Inv-loop : tie.InvT-loop
-Inv-loop t₀ k after n i₀ t i = Passed t₀ after t k n i
+mul-a : tie.Need-mul-a
+mul-a c = search needs
 
-abbrev μ-loop : tie.MeasureT-loop
-μ-loop t₀ k after n i₀ t i = n - i
+element-copy-out-a : tie.Need-element-copy-out-a
+element-copy-out-a c = search needs
 
--- src/order.rt:21:5
-loop-holds : tie.Need-loop-holds Inv-loop μ-loop
-loop-holds c = passed-none (c .args .t .now) (c .args .after) (c .args .k) (c .args .n) (c .pre .0 .2)
+mul-b : tie.Need-mul-b
+mul-b c = search needs
 
--- src/order.rt:22:19
-mul-row : tie.Need-mul-row Inv-loop μ-loop
-mul-row c = search needs
+element-copy-out-b : tie.Need-element-copy-out-b
+element-copy-out-b c = search needs
 
--- src/order.rt:22:19
-element-copy-out-row : tie.Need-element-copy-out-row Inv-loop μ-loop
-element-copy-out-row c = search needs
+inhabited-requires : tie.Need-inhabited-requires
+inhabited-requires c κs = search needs
 
--- src/order.rt:23:30
-contains-requires : tie.Need-contains-requires Inv-loop μ-loop
-contains-requires c κs = search needs
-
--- src/order.rt:23:16
-union-if-requires : tie.Need-union-if-requires Inv-loop μ-loop
-union-if-requires c κs = search needs
-
--- src/order.rt:23:9
-mul-t8 : tie.Need-mul-t8 Inv-loop μ-loop
-mul-t8 c = search needs
-
--- src/order.rt:23:9
-element-set-from-t : tie.Need-element-set-from-t Inv-loop μ-loop
-element-set-from-t c = search needs
-
--- src/order.rt:21:9
-add-i : tie.Need-add-i Inv-loop μ-loop
-add-i c = search needs
-
--- src/order.rt:21:5
-loop-less : tie.Need-loop-less Inv-loop μ-loop
-loop-less c = omega arith
-
--- src/order.rt:21:5
-loop-again : tie.Need-loop-again Inv-loop μ-loop
-loop-again c =
-    let l = c .before .before .before .before .loop in
-    let a = c .before .before .before .before .before .args in
-    passed-next (a .t .now) (a .after) (a .k) (a .n) (l .t) (l .i) (l .inv) (search needs) (search needs) (c .union-if .result) _
-    (c .union-if .ensures) (c .before .contains .ensures)
-
--- src/order.rt:14:1
-returns : tie.Need-returns Inv-loop μ-loop
+returns : tie.Need-returns
 returns c =
-    let s = c .before .before in
+    let s = c .before .before .before .before in
     let a = s .args in
-    let l = c .before .loop in
-    (l .inv .rows, passed-end (a .t .now) (a .after) (a .k) (a .n) (l .t) (l .i) (l .inv) (c .loop-test .left) (s .pre .1))
+    ((s .pre .0 .2, s .pre .0 .3), step-idle (a .low .now) (a .high .now) (a .k) (sym (c .before .inhabited .ensures) ∙ not-true _ (c .if1 .taken)))
+
+spread-requires : tie.Need-spread-requires
+spread-requires c κs =
+    let i = c .before .before in
+    let s = i .before .before .before .before .before in
+    let low = s .args .low .now in
+    let high = s .args .high .now in
+    let k = s .args .k in
+    ((search needs, search needs, s .pre .0 .2, s .pre .0 .3), step-clear low high k low k (in-low low high k (i .if2 .taken)) (s .args .n) (s .pre .1))
+
+spread-requires-2 : tie.Need-spread-requires-2
+spread-requires-2 c κs =
+    let i = c .before .before in
+    let s = i .before .before .before .before .before in
+    let low = s .args .low .now in
+    let high = s .args .high .now in
+    let k = s .args .k in (
+      (search needs, search needs, s .pre .0 .3, s .pre .0 .2),
+      step-clear low high k high (k - 64) (in-high low high k (i .if2 .left) (search needs)) (s .args .n) (s .pre .1),
+    )
+
+returns-2 : tie.Need-returns-2
+returns-2 c =
+    let i = c .before .before .before in
+    let a = i .before .before .before .before .before .args in
+    let low = a .low .now in
+    let high = a .high .now in
+    let e = c .spread .ensures in
+    (e .0, step-joined low high (a .k) low (a .k) (in-low low high (a .k) (i .if2 .taken)) _ _ (e .1 .0) (e .1 .1))
+
+returns-3 : tie.Need-returns-3
+returns-3 c =
+    let i = c .before .before .before in
+    let a = i .before .before .before .before .before .args in
+    let low = a .low .now in
+    let high = a .high .now in
+    let e = c .spread2 .ensures in
+    ((e .0 .1, e .0 .0), step-joined low high (a .k) high (a .k - 64) (in-high low high (a .k) (i .if2 .left) (search needs)) _ _ (e .1 .1) (e .1 .0))
 
 pub pass-spec : {M : Type 1} → statement M
 pass-spec =
     tie.close
     (tie.spec
-    Inv-loop
-    μ-loop
-    loop-holds
-    mul-row
-    element-copy-out-row
-    contains-requires
-    union-if-requires
-    mul-t8
-    element-set-from-t
-    add-i
-    loop-less
-    loop-again
-    returns)
+    mul-a
+    element-copy-out-a
+    mul-b
+    element-copy-out-b
+    inhabited-requires
+    returns
+    spread-requires
+    spread-requires-2
+    returns-2
+    returns-3)

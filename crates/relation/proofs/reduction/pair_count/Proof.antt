@@ -5,7 +5,6 @@ use Rattle.relation.proofs.Listing.{Counted, counted-none, counted-next
 use borrow.Author.Needs.{needs}
 use Rattle.relation.proofs.reduction.pair_count.Statement.{statement}
 use Rattle.relation.proofs.reduction.pair_count.Tie as tie
-use Rattle.relation.proofs.set.size.Reads as size-reads
 
 abbrev Inv-loop : tie.InvT-loop
 Inv-loop t n count₀ u₀ count u = Counted t n count u

@@ -5,7 +5,6 @@ use Rattle.relation.proofs.Listing.{Laid, laid-none, laid-room, laid-ne
 use borrow.Author.Needs.{needs}
 use Rattle.relation.proofs.reduction.write_pairs.Statement.{statement}
 use Rattle.relation.proofs.reduction.write_pairs.Tie as tie
-use Rattle.relation.proofs.reduction.write_row.Reads as write-row-reads
 
 abbrev Inv-loop : tie.InvT-loop
 Inv-loop t n area₀ at₀ u₀ area at u = Laid t n area₀ area at u

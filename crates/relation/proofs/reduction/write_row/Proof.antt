@@ -10,9 +10,6 @@ use Rattle.relation.proofs.Listing.{Lined, lined-none, lined-next, line
 use borrow.Author.Needs.{needs}
 use Rattle.relation.proofs.reduction.write_row.Statement.{statement}
 use Rattle.relation.proofs.reduction.write_row.Tie as tie
-use Rattle.relation.proofs.set.inhabited.Reads as inhabited-reads
-use Rattle.relation.proofs.set.smallest.Reads as smallest-reads
-use Rattle.relation.proofs.set.without_smallest.Reads as without-smallest-reads
 
 abbrev Inv-loop : tie.InvT-loop
 Inv-loop u at area₀ k₀ rest₀ area k rest = Lined u at rest₀ area₀ area k rest

@@ -10,40 +10,31 @@ use Rattle.relation.proofs.Lists.{Looked, looked-none, looked-hit, look
 use borrow.Author.Needs.{needs}
 use Rattle.relation.proofs.search.first_n.Statement.{statement}
 use Rattle.relation.proofs.search.first_n.Tie as tie
-use Rattle.relation.proofs.search.first_n.Reads as reads
-use Rattle.relation.proofs.search.first_n.Lts as lts
-use Rattle.relation.proofs.search.comparabilities.Reads as comparabilities-reads
-use Rattle.relation.proofs.search.first_with_a.Reads as first-with-a-reads
 
 abbrev Inv-loop : tie.InvT-loop
-Inv-loop after under n near a₀ a = Looked (at-a n (holds after)) n a
+Inv-loop after under n free a₀ a = Looked (at-a n (holds after)) n a
 
 abbrev μ-loop : tie.MeasureT-loop
-μ-loop after under n near a₀ a = n - a
+μ-loop after under n free a₀ a = n - a
 
--- src/search.rt:87:16
-comparabilities-requires : tie.Need-comparabilities-requires Inv-loop μ-loop
-comparabilities-requires c κs = c .pre
+incomparabilities-requires : tie.Need-incomparabilities-requires Inv-loop μ-loop
+incomparabilities-requires c κs = (c .pre .0, c .pre .1 .1)
 
--- src/search.rt:88:5
 loop-holds : tie.Need-loop-holds Inv-loop μ-loop
 loop-holds c = looked-none (at-a (c .before .args .n) (holds (c .before .args .after .now))) (c .before .args .n)
 
--- src/search.rt:89:13
 first-with-a-requires : tie.Need-first-with-a-requires Inv-loop μ-loop
 first-with-a-requires c κs =
     let k = c .before .before .before in
     let s = k .before in
-    ((s .pre .0, search needs), (s .pre .1 .0, k .comparabilities .ensures))
+    ((s .pre .0, search needs), (s .pre .1 .0, k .incomparabilities .ensures))
 
 enum-told : tie.Need-enum-told Inv-loop μ-loop
 enum-told c = search needs
 
--- src/search.rt:91:13
 enum-told-2 : tie.Need-enum-told-2 Inv-loop μ-loop
 enum-told-2 c = search needs
 
--- src/search.rt:91:13
 returns : tie.Need-returns Inv-loop μ-loop
 unfolding firstN
 returns c =
@@ -54,15 +45,12 @@ returns c =
     e
     ∙ looked-hit (at-a (s .args .n) (holds (s .args .after .now))) (s .args .n) (l .a) (l .inv) (search needs) (sym (w .first-with-a .ensures) ∙ e)
 
--- src/search.rt:88:9
 add-a : tie.Need-add-a Inv-loop μ-loop
 add-a c = search needs
 
--- src/search.rt:88:5
 loop-less : tie.Need-loop-less Inv-loop μ-loop
 loop-less c = omega arith
 
--- src/search.rt:88:5
 loop-again : tie.Need-loop-again Inv-loop μ-loop
 loop-again c =
     let w = c .before .before in
@@ -71,7 +59,6 @@ loop-again c =
     looked-next (at-a (s .args .n) (holds (s .args .after .now))) (s .args .n) (l .a) (l .inv) (search needs)
     (sym (w .first-with-a .ensures) ∙ ap foundFour (c .enum-told .given .1))
 
--- src/search.rt:81:1
 returns-2 : tie.Need-returns-2 Inv-loop μ-loop
 unfolding firstN
 returns-2 c =
@@ -84,7 +71,7 @@ first-n-spec =
     (tie.spec
     Inv-loop
     μ-loop
-    comparabilities-requires
+    incomparabilities-requires
     loop-holds
     first-with-a-requires
     enum-told

@@ -3,9 +3,12 @@ use borrow.Author.Needs.{needs}
 use native.Mathlib.Omega.{arith}
 use lib.ListN.{getD}
 use lib.Count.{trailing-le}
-use Rattle.relation.proofs.Sets.{Row, smallest-low, smallest-high, other-word}
+use Rattle.relation.proofs.Sets.{Row, smallest-low, smallest-second}
 use Rattle.relation.proofs.set.smallest.Statement.{statement}
 use Rattle.relation.proofs.set.smallest.Tie as tie
+
+row : (c : tie.Start) → Row (c .args .t1)
+row c = record { two = search needs; low = search needs; high = search needs }
 
 array-read-if1 : tie.Need-array-read-if1
 array-read-if1 c = search needs
@@ -26,13 +29,10 @@ add-result : tie.Need-add-result
 add-result c = omega (arith, trailing-le 64 (getD (c .before .args .t1) 1 0))
 
 returns : tie.Need-returns
-returns c = smallest-low (c .before .args .t1) (record { two = search needs; low = search needs; high = search needs }) (c .if1 .taken)
+returns c = smallest-low (c .before .args .t1) (row (c .before)) (c .if1 .taken)
 
 returns-2 : tie.Need-returns-2
-returns-2 c =
-    let s = c .before .args .t1 in
-    let r : Row s = record { two = search needs; low = search needs; high = search needs } in
-    smallest-high s r (c .if1 .left) (other-word s r (c .before .pre) (c .if1 .left))
+returns-2 c = smallest-second (c .before .args .t1) (row (c .before)) (c .before .pre) (c .if1 .left)
 
 pub smallest-spec : {M : Type 1} → statement M
 smallest-spec =

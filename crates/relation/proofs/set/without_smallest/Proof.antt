@@ -1,9 +1,12 @@
 -- `relation::set::without_smallest` meets its contract.
 use borrow.Author.Needs.{needs}
 use native.Mathlib.Omega.{arith}
-use Rattle.relation.proofs.Sets.{Row, rest-low, rest-high, other-word}
+use Rattle.relation.proofs.Sets.{Row, rest-low, rest-second, second-some}
 use Rattle.relation.proofs.set.without_smallest.Statement.{statement}
 use Rattle.relation.proofs.set.without_smallest.Tie as tie
+
+row : (c : tie.Start) → Row (c .args .t1)
+row c = record { two = search needs; low = search needs; high = search needs }
 
 array-read-if1 : tie.Need-array-read-if1
 array-read-if1 c = search needs
@@ -27,19 +30,13 @@ array-read-t24 : tie.Need-array-read-t24
 array-read-t24 c = search needs
 
 sub-t25 : tie.Need-sub-t25
-sub-t25 c =
-    let s = c .before .args .t1 in
-    let r : Row s = record { two = search needs; low = search needs; high = search needs } in
-    omega (arith, other-word s r (c .before .pre) (c .if1 .left))
+sub-t25 c = omega (arith, second-some (c .before .args .t1) (row (c .before)) (c .before .pre) (c .if1 .left))
 
 returns : tie.Need-returns
-returns c = rest-low (c .before .args .t1) (record { two = search needs; low = search needs; high = search needs }) (c .if1 .taken)
+returns c = rest-low (c .before .args .t1) (row (c .before)) (c .if1 .taken)
 
 returns-2 : tie.Need-returns-2
-returns-2 c =
-    let s = c .before .args .t1 in
-    let r : Row s = record { two = search needs; low = search needs; high = search needs } in
-    rest-high s r (c .if1 .left) (other-word s r (c .before .pre) (c .if1 .left))
+returns-2 c = rest-second (c .before .args .t1) (row (c .before)) (c .before .pre) (c .if1 .left)
 
 pub without-smallest-spec : {M : Type 1} → statement M
 without-smallest-spec =

@@ -34,8 +34,8 @@ loop-holds c =
 inhabited-requires : tie.Need-inhabited-requires Inv-loop μ-loop
 inhabited-requires c κs = tt
 
-smallest-requires-2 : tie.Need-smallest-requires-2 Inv-loop μ-loop
-smallest-requires-2 c κs = sym (c .before .inhabited .ensures) ∙ c .if1 .taken
+largest-requires : tie.Need-largest-requires Inv-loop μ-loop
+largest-requires c κs = sym (c .before .inhabited .ensures) ∙ c .if1 .taken
 
 mul-intersection-2 : tie.Need-mul-intersection-2 Inv-loop μ-loop
 mul-intersection-2 c = search needs
@@ -51,7 +51,7 @@ unfolding holds
 loop-less c =
     let l = c .before .before .before .before .before in
     let s = l .before .before .before .before in
-    let y = c .before .before .smallest2 in
+    let y = c .before .before .largest in
     down-falls (holds (s .args .under .now)) (s .args .s) (l .loop .x) (l .loop .ahead) (l .loop .inv) (y .result) (c .intersection2 .result)
     (s .pre .1 .1) (y .ensures) (c .intersection2 .ensures)
 
@@ -60,7 +60,7 @@ unfolding holds
 loop-again c =
     let l = c .before .before .before .before .before in
     let s = l .before .before .before .before in
-    let y = c .before .before .smallest2 in
+    let y = c .before .before .largest in
     down-next (holds (s .args .under .now)) (s .args .s) (l .loop .x) (l .loop .ahead) (l .loop .inv) (y .result) (c .intersection2 .result)
     (y .ensures) (c .intersection2 .ensures)
 
@@ -83,7 +83,7 @@ first-of-spec =
     intersection-requires
     loop-holds
     inhabited-requires
-    smallest-requires-2
+    largest-requires
     mul-intersection-2
     element-copy-out-intersection-2
     intersection-requires-2

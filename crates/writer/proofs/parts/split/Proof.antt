@@ -1,5 +1,6 @@
 -- `parts::split`: part after part, until nothing is left.
 use borrow.Author.Needs.{needs}
+use Prim.Native.Nat.{_<_}
 use mathlib.Core.Path.{sym, _∙_}
 use native.Mathlib.Omega.{arith}
 use lib.ListN.{length}
@@ -37,32 +38,23 @@ part-of-requires c κs =
 difference-requires : tie.Need-difference-requires Inv-loop μ-loop
 difference-requires c κs = tt
 
-mul-part : tie.Need-mul-part Inv-loop μ-loop
-mul-part c =
+-- there is room for the part
+room : (c : tie.After-difference Inv-loop μ-loop) → c .before .before .before .before .before .loop .count < 128
+room c =
     let l = c .before .before .before .before .before .loop in
     let s = c .before .before .before .before .before .before in
     let t = c .before .before .before in
-    let room = part-room (holds (s .args .near .now)) (holds (s .args .under .now)) (s .args .series) (s .args .s) (l .left) (l .parts) (l .count) (l .inv)
-    (sym (t .before .inhabited .ensures) ∙ t .if1 .taken) in
-    record { fits = omega (arith, room) }
+    part-room (holds (s .args .near .now)) (holds (s .args .under .now)) (s .args .series) (s .args .s) (l .left) (l .parts) (l .count) (l .inv)
+    (sym (t .before .inhabited .ensures) ∙ t .if1 .taken)
+
+mul-part : tie.Need-mul-part Inv-loop μ-loop
+mul-part c = record { fits = omega (arith, room c) }
 
 element-set-from-part : tie.Need-element-set-from-part Inv-loop μ-loop
-element-set-from-part c =
-    let l = c .before .before .before .before .before .loop in
-    let s = c .before .before .before .before .before .before in
-    let t = c .before .before .before in
-    let room = part-room (holds (s .args .near .now)) (holds (s .args .under .now)) (s .args .series) (s .args .s) (l .left) (l .parts) (l .count) (l .inv)
-    (sym (t .before .inhabited .ensures) ∙ t .if1 .taken) in
-    room
+element-set-from-part c = room c
 
 add-count : tie.Need-add-count Inv-loop μ-loop
-add-count c =
-    let l = c .before .before .before .before .before .loop in
-    let s = c .before .before .before .before .before .before in
-    let t = c .before .before .before in
-    let room = part-room (holds (s .args .near .now)) (holds (s .args .under .now)) (s .args .series) (s .args .s) (l .left) (l .parts) (l .count) (l .inv)
-    (sym (t .before .inhabited .ensures) ∙ t .if1 .taken) in
-    record { fits = omega (arith, room) }
+add-count c = record { fits = omega (arith, room c) }
 
 loop-less : tie.Need-loop-less Inv-loop μ-loop
 loop-less c =

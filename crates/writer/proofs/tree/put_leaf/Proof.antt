@@ -1,11 +1,27 @@
 -- `tree::put_leaf`: one store in each list.
-use mathlib.Core.Path.{refl, ap}
+use Prim.Native.Nat.{_%_, _<_}
+use mathlib.Core.Path.{_≡_, refl, sym, ap, ap₂, subst, _∙_}
 use native.Mathlib.Nat.{mod-eq-of-lt}
 use native.Mathlib.Omega.{arith}
-use lib.ListN.{set}
+use lib.ListN.{getD, set}
 use borrow.Author.Needs.{needs}
+use Rattle.writer.specs.Stack.{lead}
+use Rattle.writer.proofs.Leads.{some-any, lead-least}
 use Rattle.writer.proofs.tree.put_leaf.Statement.{statement}
 use Rattle.writer.proofs.tree.put_leaf.Tie as tie
+
+smallest-requires : tie.Need-smallest-requires
+smallest-requires c κs = some-any (c .args .s) (c .pre .0 .0)
+
+mul-start : tie.Need-mul-start
+mul-start c = search needs
+
+element-copy-out-start : tie.Need-element-copy-out-start
+element-copy-out-start c = search needs
+
+-- the smallest job
+job : (c : tie.After-smallest) → lead (c .before .args .s) ≡ c .smallest .result
+job c = lead-least (c .before .args .s) (c .smallest .result) (c .smallest .ensures)
 
 cast-fields : tie.Need-cast-fields
 cast-fields c = search needs
@@ -26,28 +42,34 @@ cast-reverse : tie.Need-cast-reverse
 cast-reverse c = search needs
 
 element-write-reverse : tie.Need-element-write-reverse
-element-write-reverse c = search needs
+element-write-reverse c =
+    subst (λ k. getD (c .before .before .args .numbers .now) k 0 < 128) (job (c .before)) (c .before .before .pre .0 .1)
 
-sub-t9 : tie.Need-sub-t9
-sub-t9 c = search needs
+sub-t11 : tie.Need-sub-t11
+sub-t11 c = search needs
 
-add-t11 : tie.Need-add-t11
-add-t11 c = search needs
+add-t14 : tie.Need-add-t14
+add-t14 c = search needs
 
-add-t19 : tie.Need-add-t19
-add-t19 c = search needs
+add-t23 : tie.Need-add-t23
+add-t23 c = search needs
 
 returns : tie.Need-returns
 returns c =
-    let a = c .before .args in
-    let pre = c .before .pre in (
-      omega (arith, pre .4),
+    let a = c .before .before .before .args in
+    let pre = c .before .before .before .pre in
+    let x = c .before .before .smallest .result in
+    let small = c .before .before .smallest .ensures .small in
+    let is = sym (job (c .before .before)) in
+    let short : x % 256 ≡ lead (a .s) = mod-eq-of-lt (omega arith) ∙ is in
+    let long : x % 65536 ≡ lead (a .s) = mod-eq-of-lt (omega arith) ∙ is in (
+      omega (arith, pre .1 .2),
       (
         (refl, refl, refl),
         (
-          ap (set (a .fields .now) (a .p .count)) (mod-eq-of-lt (omega (arith, pre .0))),
-          ap (set (a .forward .now) (a .p .placed)) (mod-eq-of-lt (omega (arith, pre .0))),
-          ap (set (a .reverse .now) (a .start)) (mod-eq-of-lt (omega (arith, pre .0))),
+          ap (set (a .fields .now) (a .p .count)) long,
+          ap (set (a .forward .now) (a .p .placed)) short,
+          ap₂ (set (a .reverse .now)) (ap (λ k. getD (a .numbers .now) k 0) is) short,
         ),
       ),
     )
@@ -56,6 +78,9 @@ pub put-leaf-spec : {M : Type 1} → statement M
 put-leaf-spec =
     tie.close
     (tie.spec
+    smallest-requires
+    mul-start
+    element-copy-out-start
     cast-fields
     mul-fields
     element-write-fields
@@ -63,7 +88,7 @@ put-leaf-spec =
     element-write-forward
     cast-reverse
     element-write-reverse
-    sub-t9
-    add-t11
-    add-t19
+    sub-t11
+    add-t14
+    add-t23
     returns)

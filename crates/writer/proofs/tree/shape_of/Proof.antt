@@ -1,265 +1,309 @@
-use borrow.Author.Needs.{needs}
-use Prim.Native.Nat.{_-_}
-use mathlib.Core.Path.{_≡_, refl, sym, ap, subst, _∙_}
+-- `tree::shape_of`: the tree is written entry by entry.
+use Prim.Native.Nat.{ℕ, suc, _+_, _-_, _≤_, _<_}
+use mathlib.Core.Path.{_≡_, refl, sym, ap, subst₂, _∙_}
+use mathlib.Core.List.{List, []}
 use mathlib.Core.Bool.{true, false}
+use mathlib.Core.Logic.{⊎-elim}
 use native.Mathlib.Omega.{arith}
-use lib.ListN.{length, getD}
-use Rattle.poset.proofs.Laws.{ltb-true}
-use Rattle.relation.specs.Table.{has, members, holds}
-use Rattle.writer.specs.Parts.{closeOf}
-use Rattle.writer.specs.Tokens.{ShapeOf}
-use Rattle.writer.proofs.Shaping.{Shaping, height-few, shape-start, top-ok, room, leaf-turn, group-cut, shape-done, no-tree}
-use Rattle.writer.proofs.Roots.{Tables, tables, root-cut, members-all, single, some-any, cut-jobs, cut-joined, under-partial, stuck, alike}
+use lib.Dec.{ltb}
+use lib.ListN.{length, getD, replicate, set}
+use Rattle.poset.specs.Order.{Rel}
+use Rattle.poset.proofs.Laws.{lt-true}
+use Rattle.relation.specs.Table.{members, holds}
+use Rattle.writer.specs.declared.tree.Progress.{Progress}
+use Rattle.writer.specs.Parts.{Cut, closeOf}
+use Rattle.writer.specs.Stack.{entryAt, lead, groupField}
+use Rattle.writer.specs.Tokens.{shape}
+use Rattle.writer.proofs.Leads.{lead-member, single}
+use Rattle.writer.proofs.Entries.{EntryOk}
+use Rattle.writer.proofs.Shaping.{Arrays, Shaping, height-few, shape-start, top-ok, room, opens, leaf-turn, group-cut, shape-done, no-tree}
+use Rattle.writer.proofs.Roots.{Tables, tables, root-cut, members-all, cut-joined, under-partial, stuck, alike}
 use Rattle.writer.proofs.tree.shape_of.Statement.{statement}
 use Rattle.writer.proofs.tree.shape_of.Tie as tie
-use Rattle.writer.proofs.tree.shape_of.Reads as reads
-use Rattle.writer.proofs.tree.shape_of.Lts as lts
-use Rattle.relation.proofs.set.all_below.Reads as all-below-reads
-use Rattle.relation.proofs.set.size.Reads as size-reads
-use Rattle.relation.proofs.set.smallest.Reads as smallest-reads
-use Rattle.writer.proofs.tree.comparable.Reads as comparable-reads
-use Rattle.writer.proofs.tree.incomparable.Reads as incomparable-reads
-use Rattle.writer.proofs.tree.no_shape.Reads as no-shape-reads
-use Rattle.writer.proofs.tree.push.Reads as push-reads
-use Rattle.writer.proofs.tree.put_group.Reads as put-group-reads
-use Rattle.writer.proofs.tree.put_leaf.Reads as put-leaf-reads
-use Rattle.writer.proofs.tree.split_as.Reads as split-as-reads
 
 abbrev Inv-loop : tie.InvT-loop
-Inv-loop after under n tied free parts₀ first stack₀ starts₀ kinds₀ fields₀ forward₀ reverse₀ p₀ parts stack starts kinds fields forward reverse p =
+Inv-loop after under n tied free parts₀ stack₀ numbers₀ kinds₀ fields₀ forward₀ reverse₀ first p₀ parts stack numbers kinds fields forward reverse p =
     Tables n (holds after) (holds under) (holds tied) (holds free)
     × (length parts ≡ 128)
     × Shaping n (holds after) (holds tied) (holds free)
-    (record { stack = stack; starts = starts; kinds = kinds; fields = fields; forward = forward; reverse = reverse })
+    (record { stack = stack; numbers = numbers; kinds = kinds; fields = fields; forward = forward; reverse = reverse })
     p
 
 abbrev μ-loop : tie.MeasureT-loop
-μ-loop after under n tied free parts₀ first stack₀ starts₀ kinds₀ fields₀ forward₀ reverse₀ p₀ parts stack starts kinds fields forward reverse p =
+μ-loop after under n tied free parts₀ stack₀ numbers₀ kinds₀ fields₀ forward₀ reverse₀ first p₀ parts stack numbers kinds fields forward reverse p =
     512 - p .count
 
--- src/tree.rt:219:16
 comparable-requires : tie.Need-comparable-requires Inv-loop μ-loop
 comparable-requires c κs = c .pre .0 .1
 
--- src/tree.rt:220:16
 incomparable-requires : tie.Need-incomparable-requires Inv-loop μ-loop
 incomparable-requires c κs = c .before .before .pre .0 .1
 
--- src/tree.rt:221:9
-all-below-requires : tie.Need-all-below-requires Inv-loop μ-loop
-all-below-requires c κs = c .before .before .before .pre .0 .1
+first-entry-requires : tie.Need-first-entry-requires Inv-loop μ-loop
+first-entry-requires c κs =
+    let s = c .before .before .before .before .before .before .before in
+    (s .pre .0 .1, (under-partial _ _ _ (s .pre .1 .0) (s .pre .1 .1 .0) (s .pre .1 .1 .1), refl))
 
--- src/tree.rt:223:9
-split-as-requires : tie.Need-split-as-requires Inv-loop μ-loop
-split-as-requires c κs =
-    let s = c .before .before .before .before .before .before .before in (
-      (λ v q. omega (arith, ltb-true v _ (sym (c .before .before .before .all-below .ensures v) ∙ q), s .pre .0 .1)),
-      (under-partial _ _ _ (s .pre .1 .0) (s .pre .1 .1 .0) (s .pre .1 .1 .1), refl),
+-- all jobs are on the stack
+module _ (c : tie.After-first-entry Inv-loop μ-loop) where
+  abbrev s : tie.Start Inv-loop μ-loop
+  s = c .before .before .before .before .before .before .before .before
+
+  abbrev order : Rel
+  order = holds (s .args .after .now)
+
+  abbrev under : Rel
+  under = holds (s .args .under .now)
+
+  abbrev tied : Rel
+  tied = holds (c .before .before .before .before .before .before .before .comparable .result)
+
+  abbrev free : Rel
+  free = holds (c .before .before .before .before .before .incomparable .result)
+
+  abbrev first : ℕ
+  first = c .first-entry .result
+
+  abbrev parts : List (List ℕ)
+  parts = c .first-entry .last .1 .1 .1 .0
+
+  abbrev begun : Arrays
+  begun =
+      record {
+        stack = c .first-entry .last .1 .1 .1 .1 .0;
+        numbers = replicate 128 0;
+        kinds = c .first-entry .last .1 .1 .1 .1 .1 .0;
+        fields = replicate 256 0;
+        forward = replicate 128 0;
+        reverse = replicate 128 0;
+      }
+
+  abbrev nothing : Progress
+  nothing = record { height = 1; count = 0; groups = 0; placed = 0 }
+
+  has-tables : Tables (s .args .n) order under tied free
+  has-tables =
+      tables _ _ _ _ _ (s .pre .0 .1) (s .pre .1 .0) (s .pre .1 .1 .0) (s .pre .1 .1 .1)
+      (c .before .before .before .before .before .before .before .comparable .ensures) (c .before .before .before .before .before .incomparable .ensures)
+
+  on-stack : getD (begun .stack) 0 [] ≡ c .first-entry .ensures .all
+  on-stack = ap (λ l. getD l 0 []) (c .first-entry .ensures .on-stack)
+
+  kind : getD (begun .kinds) 0 false ≡ ltb 1 first
+  kind = ap (λ l. getD l 0 false) (c .first-entry .ensures .kind)
+
+  begins : Shaping (s .args .n) order tied free begun nothing
+  begins =
+      let t = has-tables in
+      let e = c .first-entry .ensures in
+      shape-start (s .args .n) (t .few) order tied free (e .all) (ltb 1 first) (members-all _ _ (t .few) (e .is-all))
+      (root-cut _ (s .pre .0 .0) (t .few) _ _ _ _ (t .strict) (t .turned) (t .tied-is) (t .free-is) _ (e .is-all) (e .cut))
+      begun (record { sets-size = ap length (e .on-stack); numbers-size = refl; kinds-size = ap length (e .kind) })
+      on-stack refl kind refl refl refl nothing refl refl refl refl
+
+-- they come apart as a series
+module _ (c : tie.Then1 Inv-loop μ-loop) where
+  abbrev q : tie.After-first-entry Inv-loop μ-loop
+  q = c .before
+
+  series : getD (begun q .kinds) 0 false ≡ true
+  series = kind q ∙ lt-true 1 (first q) (c .if1 .taken)
+
+  cut : Cut (closeOf (getD (begun q .kinds) 0 false) (tied q) (free q)) (under q) (getD (begun q .kinds) 0 false) (getD (begun q .stack) 0 [])
+      (parts q) (first q)
+  cut =
+      subst₂ (λ b x. Cut (closeOf b (tied q) (free q)) (under q) b x (parts q) (first q)) (sym series) (sym (on-stack q))
+      (q .first-entry .ensures .cut)
+
+  few-parts : first q ≤ 128
+  few-parts =
+      let few = has-tables q .few in
+      omega (arith, cut .few, room _ few _ _ _ _ _ (begins q) 0 refl .0, few)
+
+spread-requires : tie.Need-spread-requires Inv-loop μ-loop
+spread-requires c κs =
+    let t = c .before .before .before .before in
+    let x = cut t in (
+      (few-parts t, omega (arith, few-parts t), omega arith),
+      ((x .size, begins (q t) .stacks), opens _ (has-tables (q t) .few) _ _ _ _ _ (begins (q t)) 0 refl _ x),
     )
 
--- src/tree.rt:227:5
-array-set-from-stack : tie.Need-array-set-from-stack Inv-loop μ-loop
-array-set-from-stack c = omega arith
+put-group-requires : tie.Need-put-group-requires Inv-loop μ-loop
+put-group-requires c κs = let t = c .before .before .before .before .before .before in (omega (arith, t .if1 .taken), few-parts t, omega arith, omega arith)
 
--- src/tree.rt:228:5
-array-write-kinds : tie.Need-array-write-kinds Inv-loop μ-loop
-array-write-kinds c = omega arith
-
--- src/tree.rt:238:5
 loop-holds : tie.Need-loop-holds Inv-loop μ-loop
 loop-holds c =
-    let s = c .before .before .before .before .before .before .before .before in
-    let t = tables _ _ _ _ _ (s .pre .0 .1) (s .pre .1 .0) (s .pre .1 .1 .0) (s .pre .1 .1 .1)
-    (c .before .before .before .before .before .before .before .comparable .ensures)
-    (c .before .before .before .before .before .incomparable .ensures) in
-    let all = c .before .before .before .before .all-below .ensures in (
+    let b = c .before in
+    let t = has-tables b in (
       t,
-      c .split-as .ensures .size,
-      shape-start _ (t .few) _ _ _ _ _ (members-all _ _ (t .few) all)
-          (root-cut _ (s .pre .0 .0) (t .few) _ _ _ _ (t .strict) (t .turned) (t .tied-is) (t .free-is) _ all (c .split-as .ensures))
-          _ (record { sets-size = refl; starts-size = refl; kinds-size = refl }) refl refl refl refl refl refl _ refl refl refl refl,
+      b .first-entry .ensures .cut .size,
+      ⊎-elim
+          (λ w.
+          let th : tie.Then1 Inv-loop μ-loop = record { before = b; if1 = w .0 } in
+          let e = w .5 .ensures in
+          let g = w .7 .ensures in
+          subst₂ (Shaping (s b .args .n) (order b) (tied b) (free b))
+          (λ i. record {
+            stack = sym (w .8) i;
+            numbers = sym (w .9) i;
+            kinds = sym (w .10) i;
+            fields = sym (w .11) i;
+            forward = replicate 128 0;
+            reverse = replicate 128 0;
+          })
+          (sym (w .12))
+          (group-cut _ (t .few) _ _ _ _ _ (begins b) 0 refl _ (t .strict) (t .turned)
+          (alike _ (t .few) _ _ _ _ (t .strict) (t .turned) (t .tied-is) (t .free-is) (getD (begun b .kinds) 0 false))
+          (cut th) (omega (arith, w .0 .taken)) _ _ _ _ (e .1 .0) (e .1 .1) (g .0 .0 ∙ e .0) (g .0 .1) (g .0 .2) (g .0 .3) _
+          (g .1 ∙ ap (λ k. set (replicate 256 0) 0 (groupField k (first b - 1))) (sym (series th)))))
+          (λ w.
+          subst₂ (Shaping (s b .args .n) (order b) (tied b) (free b))
+          (λ i. record {
+            stack = sym (w .1) i;
+            numbers = sym (w .2) i;
+            kinds = sym (w .3) i;
+            fields = sym (w .4) i;
+            forward = replicate 128 0;
+            reverse = replicate 128 0;
+          })
+          (sym (w .5)) (begins b))
+          (c .if1 .came),
     )
 
--- src/tree.rt:239:19
 sub-top : tie.Need-sub-top Inv-loop μ-loop
-sub-top c = omega arith
+sub-top c = omega (arith, c .before .if2 .taken)
 
--- src/tree.rt:240:17
 mul-s : tie.Need-mul-s Inv-loop μ-loop
 mul-s c =
     let l = c .before .before .before .loop in
     omega (arith, height-few _ _ _ _ _ _ (l .inv .2), l .inv .0 .few)
 
--- src/tree.rt:240:17
 array-copy-out-s : tie.Need-array-copy-out-s Inv-loop μ-loop
 array-copy-out-s c =
     let l = c .before .before .before .loop in
     omega (arith, height-few _ _ _ _ _ _ (l .inv .2), l .inv .0 .few)
 
--- src/tree.rt:241:13
+-- the top entry
+module _ (c : tie.After-size Inv-loop μ-loop) where
+  abbrev turn : tie.At-loop Inv-loop μ-loop
+  turn = c .before .before .before .before .before
+
+  abbrev begin : tie.After-first-entry Inv-loop μ-loop
+  begin = turn .before .before
+
+  abbrev top : ℕ
+  top = turn .loop .p .height - 1
+
+  abbrev jobs : List ℕ
+  jobs = getD (turn .loop .stack) top []
+
+  up : turn .loop .p .height ≡ suc top
+  up = omega (arith, c .before .before .before .if2 .taken)
+
+  few : s begin .args .n ≤ 128
+  few = turn .loop .inv .0 .few
+
+  ok : EntryOk (s begin .args .n) (tied begin) (free begin) (entryAt (turn .loop .stack) (turn .loop .numbers) (turn .loop .kinds) top)
+  ok = top-ok _ few _ _ _ _ _ (turn .loop .inv .2) top up .0
+
+  fits : (top + length (members jobs) ≤ s begin .args .n) × (turn .loop .p .count < 255) × (turn .loop .p .placed < s begin .args .n)
+      × (turn .loop .p .groups < 255)
+  fits = room _ few _ _ _ _ _ (turn .loop .inv .2) top up
+
 size-requires : tie.Need-size-requires Inv-loop μ-loop
 size-requires c κs = tt
 
--- src/tree.rt:247:17
-smallest-requires : tie.Need-smallest-requires Inv-loop μ-loop
-smallest-requires c κs =
-    let l = c .before .before .before .before .before .before .before .before .before .loop in
-    let ok = top-ok _ (l .inv .0 .few) _ _ _ _ _ (l .inv .2) (l .p .height - 1) (omega arith) .0 in
-    some-any _ (λ v q. omega (arith, ok .small v q, l .inv .0 .few)) (ok .some)
-
--- src/tree.rt:248:17
-mul-put-leaf : tie.Need-mul-put-leaf Inv-loop μ-loop
-mul-put-leaf c =
-    let l = c .before .before .before .before .before .before .before .before .before .before .loop in
-    omega (arith, height-few _ _ _ _ _ _ (l .inv .2), l .inv .0 .few)
-
--- src/tree.rt:248:17
-array-read-put-leaf : tie.Need-array-read-put-leaf Inv-loop μ-loop
-array-read-put-leaf c =
-    let l = c .before .before .before .before .before .before .before .before .before .before .loop in
-    omega (arith, height-few _ _ _ _ _ _ (l .inv .2), l .inv .0 .few)
-
--- src/tree.rt:243:17
 put-leaf-requires : tie.Need-put-leaf-requires Inv-loop μ-loop
 put-leaf-requires c κs =
-    let l = c .before .before .before .before .before .before .before .before .before .before .loop in
-    let ok = top-ok _ (l .inv .0 .few) _ _ _ _ _ (l .inv .2) (l .p .height - 1) (omega arith) .0 in
-    let rm = room _ (l .inv .0 .few) _ _ _ _ _ (l .inv .2) (l .p .height - 1) (omega arith) in (
-      c .smallest .ensures .small,
-      omega (arith, ok .fits, ok .some, l .inv .0 .few),
-      omega (arith, rm .1),
-      omega (arith, rm .2, l .inv .0 .few),
-      c .before .before .before .before .before .before .before .before .if1 .taken,
+    let z = c .before .before .before .before .before in (
+      (ok z .some, omega (arith, ok z .fits, ok z .some, few z)),
+      (omega (arith, fits z .1), omega (arith, fits z .2, few z), z .before .before .before .if2 .taken),
     )
 
--- src/tree.rt:238:5
 loop-less : tie.Need-loop-less Inv-loop μ-loop
-loop-less c =
-    let l = c .before .before .before .before .before .before .before .before .before .before .before .loop in
-    let rm = room _ (l .inv .0 .few) _ _ _ _ _ (l .inv .2) (l .p .height - 1) (omega arith) in
-    omega (arith, rm .1, c .put-leaf .ensures .1 .0 .0)
+loop-less c = omega (arith, fits (c .before .before .before .before .before .before) .1, c .put-leaf .ensures .1 .0 .0)
 
--- src/tree.rt:238:5
 loop-again : tie.Need-loop-again Inv-loop μ-loop
 loop-again c =
-    let l = c .before .before .before .before .before .before .before .before .before .before .before .loop in
-    let ok = top-ok _ (l .inv .0 .few) _ _ _ _ _ (l .inv .2) (l .p .height - 1) (omega arith) .0 in
-    let e = c .put-leaf .ensures in
-    let j = c .before .smallest .ensures in (
+    let z = c .before .before .before .before .before .before in
+    let l = turn z .loop in
+    let e = c .put-leaf .ensures in (
       l .inv .0,
       l .inv .1,
-      leaf-turn _ (l .inv .0 .few) _ _ _ _ _ (l .inv .2) (l .p .height - 1) (omega arith) _
-          (single _ _ j (sym (c .before .before .before .before .before .before .size .ensures .0) ∙ c .before .before .before .before .before .if2 .taken))
-          (l .inv .0 .strict .irreflexive _ (ok .small _ (j .member)))
+      leaf-turn _ (few z) _ _ _ _ _ (l .inv .2) (top z) (up z) (lead (jobs z))
+          (single (jobs z) (sym (z .size .ensures .0) ∙ c .before .before .before .before .before .if3 .taken))
+          (l .inv .0 .strict .irreflexive _ (ok z .small _ (lead-member (jobs z) (ok z .some))))
           _ (e .0) (e .1 .0 .0) (e .1 .0 .1) (e .1 .0 .2) _ _ _ (e .1 .1 .0) (e .1 .1 .1) (e .1 .1 .2),
     )
 
--- src/tree.rt:253:26
 array-read-series : tie.Need-array-read-series Inv-loop μ-loop
 array-read-series c =
-    let l = c .before .before .before .before .before .before .loop in
-    omega (arith, height-few _ _ _ _ _ _ (l .inv .2), l .inv .0 .few)
+    let z = c .before in
+    omega (arith, fits z .0, few z, ok z .some)
 
--- src/tree.rt:254:17
-split-as-requires-2 : tie.Need-split-as-requires-2 Inv-loop μ-loop
-split-as-requires-2 c κs =
-    let l = c .before .before .before .before .before .before .before .before .before .loop in
-    let ok = top-ok _ (l .inv .0 .few) _ _ _ _ _ (l .inv .2) (l .p .height - 1) (omega arith) .0 in
-    ((λ v q. omega (arith, ok .small v q, l .inv .0 .few)), (l .inv .0 .partial, l .inv .1))
+split-as-requires : tie.Need-split-as-requires Inv-loop μ-loop
+split-as-requires c κs =
+    let z = c .before .before .before .before in
+    let l = turn z .loop in
+    ((λ v q. omega (arith, ok z .small v q, few z)), (l .inv .0 .partial, l .inv .1))
 
--- src/tree.rt:256:17
 no-shape-requires : tie.Need-no-shape-requires Inv-loop μ-loop
 no-shape-requires c κs = tt
 
--- src/tree.rt:256:17
 returns : tie.Need-returns Inv-loop μ-loop
 returns c =
-    let l = c .before .before .before .before .before .before .before .before .before .before .before .before .loop in
-    let t = l .inv .0 in
-    let ok = top-ok _ (t .few) _ _ _ _ _ (l .inv .2) (l .p .height - 1) (omega arith) .0 in
-    let cut = c .before .before .split-as2 .ensures in
-    let joined = cut-joined cut (omega (arith, ok .fits, t .few)) (c .before .if3 .taken) (ok .some) in
-    let test = c .before .before .before .before .before .before in
-    let none = no-tree _ _ (t .strict) (stuck _ (t .few) _ _ _ _ (t .strict) (t .turned) (t .tied-is) (t .free-is) _ ok
-    (λ e. test .if2 .left (test .before .size .ensures .0 ∙ e)) joined) in
-    subst (λ o. ShapeOf o (c .no-shape .result)) (sym none) (c .no-shape .ensures)
+    let z = c .before .before .before .before .before .before .before in
+    let t = turn z .loop .inv .0 in
+    let joined = cut-joined (c .before .before .split-as .ensures) (omega (arith, ok z .fits, few z)) (c .before .if4 .taken) (ok z .some) in
+    let none = no-tree _ _ (t .strict) (stuck _ (t .few) _ _ _ _ (t .strict) (t .turned) (t .tied-is) (t .free-is) _ (ok z)
+    (λ e. c .before .before .before .before .before .before .if3 .left (z .size .ensures .0 ∙ e)) joined) in
+    c .no-shape .ensures ∙ ap shape (sym none)
 
--- src/tree.rt:262:17
-mul-push : tie.Need-mul-push Inv-loop μ-loop
-mul-push c =
-    let l = c .before .before .before .before .before .before .before .before .before .before .before .before .loop in
-    omega (arith, height-few _ _ _ _ _ _ (l .inv .2), l .inv .0 .few)
-
--- src/tree.rt:262:17
-array-read-push : tie.Need-array-read-push Inv-loop μ-loop
-array-read-push c =
-    let l = c .before .before .before .before .before .before .before .before .before .before .before .before .loop in
-    omega (arith, height-few _ _ _ _ _ _ (l .inv .2), l .inv .0 .few)
-
--- src/tree.rt:258:17
-push-requires : tie.Need-push-requires Inv-loop μ-loop
-push-requires c κs =
-    let l = c .before .before .before .before .before .before .before .before .before .before .before .before .before .before .before .loop in
-    let t = l .inv .0 in
-    let ok = top-ok _ (t .few) _ _ _ _ _ (l .inv .2) (l .p .height - 1) (omega arith) .0 in
-    let rm = room _ (t .few) _ _ _ _ _ (l .inv .2) (l .p .height - 1) (omega arith) in
-    let cut = c .before .before .before .before .before .split-as2 .ensures in
-    let size = c .before .before .before .before .before .before .before .before .before .before .size .ensures .0 in (
-      (omega (arith, cut .few, rm .0, t .few), omega (arith, cut .few, rm .0, t .few), omega (arith, size, ok .fits, t .few)),
-      ((cut .size, cut-jobs cut ∙ sym size), l .inv .2 .stacks),
+spread-requires-2 : tie.Need-spread-requires-2 Inv-loop μ-loop
+spread-requires-2 c κs =
+    let z = c .before .before .before .before .before .before .before .before .before .before in
+    let l = turn z .loop in
+    let x = c .before .before .before .before .before .split-as .ensures in (
+      (omega (arith, x .few, fits z .0, few z), omega (arith, x .few, fits z .0, few z), omega (arith, fits z .0, few z, ok z .some)),
+      ((x .size, l .inv .2 .stacks), opens _ (few z) _ _ _ _ _ (l .inv .2) (top z) (up z) _ x),
     )
 
--- src/tree.rt:269:17
-put-group-requires : tie.Need-put-group-requires Inv-loop μ-loop
-put-group-requires c κs =
-    let l = c .before .before .before .before .before .before .before .before .before .before .before .before .before .before .before .before .before .loop in
-    let t = l .inv .0 in
-    let rm = room _ (t .few) _ _ _ _ _ (l .inv .2) (l .p .height - 1) (omega arith) in
-    let cut = c .before .before .before .before .before .before .before .split-as2 .ensures in (
-      omega (arith, c .before .before .before .before .before .before .if3 .left),
-      omega (arith, cut .few, rm .0, t .few),
-      omega (arith, rm .1),
-      omega (arith, rm .3),
-    )
+put-group-requires-2 : tie.Need-put-group-requires-2 Inv-loop μ-loop
+put-group-requires-2 c κs =
+    let z = c .before .before .before .before .before .before .before .before .before .before .before .before in
+    let x = c .before .before .before .before .before .before .before .split-as .ensures in
+    let two = c .before .before .before .before .before .before .if4 .left in
+    (omega (arith, two), omega (arith, x .few, fits z .0, few z), omega (arith, fits z .1), omega (arith, fits z .3))
 
--- src/tree.rt:238:5
 loop-less-2 : tie.Need-loop-less-2 Inv-loop μ-loop
 loop-less-2 c =
-    let body = c .before .before .before .before .before .before .before .before .before in
-    let l = body .before .before .before .before .before .before .before .before .before .loop in
-    let rm = room _ (l .inv .0 .few) _ _ _ _ _ (l .inv .2) (l .p .height - 1) (omega arith) in
-    omega (arith, rm .1, c .put-group .ensures .0 .1)
+    let z = c .before .before .before .before .before .before .before .before .before .before .before .before .before in
+    omega (arith, fits z .1, c .put-group2 .ensures .0 .1)
 
--- src/tree.rt:238:5
 loop-again-2 : tie.Need-loop-again-2 Inv-loop μ-loop
 loop-again-2 c =
-    let body = c .before .before .before .before .before .before .before .before .before in
-    let l = body .before .before .before .before .before .before .before .before .before .loop in
+    let z = c .before .before .before .before .before .before .before .before .before .before .before .before .before in
+    let l = turn z .loop in
     let t = l .inv .0 in
-    let cut = c .before .before .before .before .before .before .before .before .split-as2 .ensures in
-    let push = c .before .before .push .ensures in
-    let e = c .put-group .ensures in (
+    let x = c .before .before .before .before .before .before .before .before .split-as .ensures in
+    let e = c .before .before .spread2 .ensures in
+    let two = c .before .before .before .before .before .before .before .if4 .left in
+    let g = c .put-group2 .ensures in (
       t,
-      cut .size,
-      group-cut _ (t .few) _ _ _ _ _ (l .inv .2) (l .p .height - 1)
-          (omega (arith, body .before .before .before .before .before .before .before .if1 .taken)) _ (t .strict) (t .turned)
-          (alike _ (t .few) _ _ _ _ (t .strict) (t .turned) (t .tied-is) (t .free-is) (getD (l .kinds) (l .p .height - 1) false))
-          cut (c .before .before .before .before .before .before .before .if3 .left) _ _ _ _ (push .1 .0) _
-          (body .before .before .before .before .size .ensures .0) (push .1 .1) (e .0 .0 ∙ push .0)
-          (e .0 .1) (e .0 .2) (e .0 .3) _ (e .1),
+      x .size,
+      group-cut _ (t .few) _ _ _ _ _ (l .inv .2) (top z) (up z) _ (t .strict) (t .turned)
+          (alike _ (t .few) _ _ _ _ (t .strict) (t .turned) (t .tied-is) (t .free-is) (getD (l .kinds) (top z) false))
+          x two _ _ _ _ (e .1 .0) (e .1 .1) (g .0 .0 ∙ e .0) (g .0 .1) (g .0 .2) (g .0 .3) _ (g .1),
     )
 
--- src/tree.rt:212:1
+shaped-requires : tie.Need-shaped-requires Inv-loop μ-loop
+shaped-requires c κs = tt
+
 returns-2 : tie.Need-returns-2 Inv-loop μ-loop
 returns-2 c =
-    let l = c .before .before .loop in
+    let l = c .before .before .before .loop in
     let t = l .inv .0 in
-    let (tree, found, spelt, number, forward, reverse, fits) = shape-done _ (t .few) _ _ _ (t .strict) _ _ (l .inv .2) (omega (arith, c .if1 .left)) in
-    subst
-    (λ o. ShapeOf o
-    (record { ok = true; fields = l .fields; count = l .p .count; groups = l .p .groups; forward = l .forward; reverse = l .reverse }))
-    (sym found)
-    (record { accepted = refl; fits = fits; size = l .inv .2 .fields-size; spelt = spelt; number = number; forward-is = forward; reverse-is = reverse })
+    c .shaped .ensures ∙ shape-done _ (t .few) _ _ _ (t .strict) _ _ (l .inv .2) (omega (arith, c .before .if2 .left))
 
 pub shape-of-spec : {M : Type 1} → statement M
 shape-of-spec =
@@ -269,29 +313,24 @@ shape-of-spec =
     μ-loop
     comparable-requires
     incomparable-requires
-    all-below-requires
-    split-as-requires
-    array-set-from-stack
-    array-write-kinds
+    first-entry-requires
+    spread-requires
+    put-group-requires
     loop-holds
     sub-top
     mul-s
     array-copy-out-s
     size-requires
-    smallest-requires
-    mul-put-leaf
-    array-read-put-leaf
     put-leaf-requires
     loop-less
     loop-again
     array-read-series
-    split-as-requires-2
+    split-as-requires
     no-shape-requires
     returns
-    mul-push
-    array-read-push
-    push-requires
-    put-group-requires
+    spread-requires-2
+    put-group-requires-2
     loop-less-2
     loop-again-2
+    shaped-requires
     returns-2)

@@ -18,10 +18,10 @@ add-result-2 : tie.Need-add-result-2
 add-result-2 c = search needs
 
 returns : tie.Need-returns
-returns c = let a = c .before .args in ap (λ b. startAt b (a .start) (a .whole) (a .later) (a .size)) (sym (c .if1 .taken))
+returns c = let a = c .before .before .args in ap (λ b. startAt b (a .g .start) (a .g .whole) (a .later) (a .size)) (sym (c .before .if1 .taken))
 
 returns-2 : tie.Need-returns-2
-returns-2 c = let a = c .before .args in ap (λ b. startAt b (a .start) (a .whole) (a .later) (a .size)) (sym (c .if1 .left))
+returns-2 c = let a = c .before .before .args in ap (λ b. startAt b (a .g .start) (a .g .whole) (a .later) (a .size)) (sym (c .before .if1 .left))
 
 pub start-of-spec : {M : Type 1} → statement M
 start-of-spec =

@@ -1,18 +1,21 @@
 use borrow.Author.Needs.{needs}
-use mathlib.Core.Path.{sym}
+use borrow.Author.Tests.{not-false}
+use mathlib.Core.Path.{_≡_, sym, ap, _∙_}
+use mathlib.Core.Option.{Option, some}
+use Prim.Native.Nat.{_≤_}
+use lib.ListN.{length}
 use lib.Seq.{length-take-le}
 use Rattle.poset.specs.Decompose.{treeOf}
+use Rattle.poset.specs.Tree.{Tree}
 use Rattle.poset.proofs.Laws.{not-true}
 use Rattle.relation.specs.Table.{holds}
 use native.Mathlib.Omega.{arith}
-use Rattle.writer.proofs.Spelling.{doubled, found, unfound, spells, wrote}
+use Rattle.writer.proofs.Spelling.{shape-told, count-fits, fields-size, spells, wrote}
+use Rattle.writer.specs.Tokens.{shape}
+use Rattle.writer.specs.Written.{written}
+use Rattle.writer.specs.declared.tree.Shape.{Shape}
 use Rattle.writer.proofs.writing.write_record.Statement.{statement}
 use Rattle.writer.proofs.writing.write_record.Tie as tie
-use Rattle.writer.proofs.writing.write_record.Reads as reads
-use Rattle.writer.proofs.writing.write_record.Lts as lts
-use Rattle.writer.proofs.pack.pack.Reads as pack-reads
-use Rattle.writer.proofs.tree.shape_of.Reads as shape-of-reads
-use Rattle.writer.proofs.writing.unwritten.Reads as unwritten-reads
 
 -- src/writing.rt:43:9
 shape-of-requires : tie.Need-shape-of-requires
@@ -27,47 +30,52 @@ returns : tie.Need-returns
 returns c =
     let a = c .before .before .before .before .args in
     let shape = c .before .before .before .shape-of in
-    unfound (a .n) (treeOf (a .n) (holds (a .after .now))) (shape .result) (c .unwritten .result) (shape .ensures)
-    (not-true (shape .result .ok) (c .before .if1 .taken)) (c .unwritten .ensures)
+    let none = shape-told (treeOf (a .n) (holds (a .after .now))) (shape .result) (shape .ensures) .1 (not-true (shape .result .ok) (c .before .if1 .taken)) in
+    c .unwritten .ensures ∙ ap (written (a .n)) (sym none)
+
+-- the shape of a tree
+module _ (c : tie.Else1) where
+  abbrev start : tie.Start
+  start = c .before .before .before
+
+  abbrev shape-of : Shape
+  shape-of = c .before .before .shape-of .result
+
+  abbrev tree : Option Tree
+  tree = treeOf (start .args .n) (holds (start .args .after .now))
+
+  told : (t : Tree) × (tree ≡ some t) × (shape-of ≡ shape (some t))
+  told = shape-told tree shape-of (c .before .before .shape-of .ensures) .0 (not-false (shape-of .ok) (c .if1 .left))
+
+  fits : shape-of .count ≤ 256
+  fits = let (t, e, is) = told in count-fits (start .args .n) (start .pre .0 .1) (holds (start .args .after .now)) (start .pre .1 .0) t e shape-of is
+
+  size : length (shape-of .fields) ≡ 256
+  size = let (t, e, is) = told in fields-size (start .args .n) (start .pre .0 .1) (holds (start .args .after .now)) (start .pre .1 .0) t e shape-of is
 
 -- src/writing.rt:48:32
 array-share-prefix-fields : tie.Need-array-share-prefix-fields
-array-share-prefix-fields c =
-    let a = c .before .before .before .before .args in
-    let shape = c .before .before .before .shape-of in
-    let (t, e, f) = found (treeOf (a .n) (holds (a .after .now))) (shape .result) (shape .ensures)
-    (doubled (shape .result .ok) (c .before .if1 .left)) in
-    omega (arith, f .fits)
+array-share-prefix-fields c = omega (arith, fits (c .before), size (c .before))
 
 -- src/writing.rt:48:32
 slice-aggregate-pack : tie.Need-slice-aggregate-pack
-slice-aggregate-pack c =
-    let a = c .before .before .before .before .before .args in
-    let shape = c .before .before .before .before .shape-of in
-    let (t, e, f) = found (treeOf (a .n) (holds (a .after .now))) (shape .result) (shape .ensures)
-    (doubled (shape .result .ok) (c .before .before .if1 .left)) in
-    sym (length-take-le _ _ (omega (arith, f .fits, f .size)))
+slice-aggregate-pack c = sym (length-take-le _ _ (omega (arith, fits (c .before .before), size (c .before .before))))
 
 -- src/writing.rt:48:9
 pack-requires : tie.Need-pack-requires
 pack-requires c κs =
-    let s = c .before .before .before .before .before in
-    let shape = c .before .before .before .before .shape-of in
-    let (t, e, f) = found (treeOf (s .args .n) (holds (s .args .after .now))) (shape .result) (shape .ensures)
-    (doubled (shape .result .ok) (c .before .before .if1 .left)) in
-    let p = spells _ (s .pre .0 .1) _ (s .pre .1 .0) t e _ (f .spelt) in
+    let s = start (c .before .before) in
+    let (t, e, is) = told (c .before .before) in
+    let p = spells (s .args .n) (s .pre .0 .1) (holds (s .args .after .now)) (s .pre .1 .0) t e _ is in
     (s .pre .0, (p .low, p .room))
 
 -- src/writing.rt:36:1
 returns-2 : tie.Need-returns-2
 returns-2 c =
-    let s = c .before .before .before .before .before .before .before .before .before in
-    let shape = c .before .before .before .before .before .before .before .before .shape-of in
-    let (t, e, f) = found (treeOf (s .args .n) (holds (s .args .after .now))) (shape .result) (shape .ensures)
-    (doubled (shape .result .ok) (c .before .before .before .before .before .before .if1 .left)) in
-    let p = spells _ (s .pre .0 .1) _ (s .pre .1 .0) t e _ (f .spelt) in
-    wrote (s .args .n) (treeOf (s .args .n) (holds (s .args .after .now))) t (shape .result) _ _ _ e f p
-    (c .before .before .before .pack .ensures)
+    let x = c .before .before .before .before .before .before in
+    let s = start x in
+    let (t, e, is) = told x in
+    wrote (s .args .n) (s .pre .0 .1) (holds (s .args .after .now)) (s .pre .1 .0) t e _ is _ _ (c .before .before .before .pack .ensures)
 
 pub write-record-spec : {M : Type 1} → statement M
 write-record-spec =

@@ -1,0 +1,265 @@
+// Document 01's analysis of a sheet in C, to compare with: one pass over the sheet, sets of two 64-bit words, no work on jobs that the
+// sheet does not have, and nothing read past the sheet's end. Compiled with -DNAME=, the name of its one function.
+#include "whole.h"
+#include <string.h>
+
+typedef struct { uint64_t w[2]; } set;
+
+static inline set both(set a, set b) { return (set){{a.w[0] & b.w[0], a.w[1] & b.w[1]}}; }
+static inline set join(set a, set b) { return (set){{a.w[0] | b.w[0], a.w[1] | b.w[1]}}; }
+static inline set less(set a, set b) { return (set){{a.w[0] & ~b.w[0], a.w[1] & ~b.w[1]}}; }
+static inline int some(set a) { return (a.w[0] | a.w[1]) != 0; }
+static inline unsigned low(set a) { return a.w[0] ? __builtin_ctzll(a.w[0]) : 64 + __builtin_ctzll(a.w[1]); }
+static inline unsigned high(set a) { return a.w[1] ? 127 - __builtin_clzll(a.w[1]) : 63 - __builtin_clzll(a.w[0]); }
+static inline set only(unsigned v) { return v < 64 ? (set){{1ull << v, 0}} : (set){{0, 1ull << (v - 64)}}; }
+static inline set but_low(set a) { return a.w[0] ? (set){{a.w[0] & (a.w[0] - 1), a.w[1]}} : (set){{0, a.w[1] & (a.w[1] - 1)}}; }
+// without the instruction for it, which the target x86-64 does not have, gcc would call a function
+static inline unsigned ones(uint64_t x) {
+    x -= x >> 1 & 0x5555555555555555ull;
+    x = (x & 0x3333333333333333ull) + (x >> 2 & 0x3333333333333333ull);
+    return ((x + (x >> 4)) & 0x0f0f0f0f0f0f0f0full) * 0x0101010101010101ull >> 56;
+}
+static inline set below(unsigned n) {
+    return n < 64 ? (set){{(1ull << n) - 1, 0}} : (set){{~0ull, n < 128 ? (1ull << (n - 64)) - 1 : ~0ull}};
+}
+
+static inline uint64_t answer(uint64_t number, uint64_t a, uint64_t b, uint64_t c, uint64_t d) {
+    return number | a << 8 | b << 24 | c << 40 | d << 48;
+}
+
+// What one pass over the order lines finds. far, own: one more than the first order with a job not below n, from a job to itself.
+typedef struct { unsigned n, orders, far, own; const uint8_t *at; } scan;
+
+// A number of one to three digits, no leading zero: the place after it, or p where there is none. A byte is read only after digits.
+static inline const uint8_t *number(const uint8_t *p, unsigned *x) {
+    unsigned a = p[0] - '0', b, c;
+    if (a > 9) return p;
+    *x = a;
+    if (a == 0 || (b = p[1] - '0') > 9) return p + 1;
+    *x = 10 * a + b;
+    if ((c = p[2] - '0') > 9) return p + 2;
+    *x = 100 * a + 10 * b + c;
+    return p + 3;
+}
+
+// Order lines from f->at on, each into the table, until stop; whether the form holds. A line has at most 8 bytes: 8 are there from every
+// place ahead of stop.
+static inline int lines(scan *f, const uint8_t *stop, set *after) {
+    const uint8_t *p = f->at, *q;
+    unsigned x, y, n = f->n, m = f->orders;
+    while (p < stop) {
+        q = number(p, &x);
+        if (q == p || *q != ' ') goto broken;
+        p = q + 1;
+        q = number(p, &y);
+        if (q == p || *q != '\n') goto broken;
+        p = q + 1;
+        m++;
+        if (x >= n || y >= n) {
+            if (!f->far) f->far = m;
+        } else {
+            if (x == y && !f->own) f->own = m;
+            after[x].w[y >> 6] |= 1ull << (y & 63);
+        }
+    }
+    f->at = p;
+    f->orders = m;
+    return 1;
+broken:
+    f->at = q;
+    return 0;
+}
+
+// The transitive closure (Warshall), no branch in the inner loop: a mask of all ones where i is before k.
+static void close(set *after, unsigned n) {
+    for (unsigned k = 0; k < n; k++) {
+        set beyond = after[k];
+        if (!some(beyond)) continue;
+        for (unsigned i = 0; i < n; i++) {
+            uint64_t mask = -(after[i].w[k >> 6] >> (k & 63) & 1);
+            after[i].w[0] |= beyond.w[0] & mask;
+            after[i].w[1] |= beyond.w[1] & mask;
+        }
+    }
+}
+
+// Hacker's Delight, 7-3: a square of 64 by 64 bits turned in place.
+static void turn64(uint64_t m[64]) {
+    uint64_t k = 0x00000000ffffffffull;
+    for (int j = 32; j; j >>= 1, k ^= k << j)
+        for (int i = 0; i < 64; i = (i + j + 1) & ~j) {
+            uint64_t t = ((m[i] >> j) ^ m[i + j]) & k;
+            m[i] ^= t << j;
+            m[i + j] ^= t;
+        }
+}
+
+// The relation the other way round: few jobs one bit at a time, more by squares.
+static void turn(set *under, const set *after, unsigned n) {
+    memset(under, 0, n * sizeof *under);
+    if (n <= 24) {
+        for (unsigned i = 0; i < n; i++)
+            for (uint64_t s = after[i].w[0]; s; s &= s - 1) under[__builtin_ctzll(s)].w[0] |= 1ull << i;
+        return;
+    }
+    for (unsigned r = 0; 64 * r < n; r++)
+        for (unsigned c = 0; 64 * c < n; c++) {
+            uint64_t m[64];
+            unsigned rows = n - 64 * r < 64 ? n - 64 * r : 64, columns = n - 64 * c < 64 ? n - 64 * c : 64;
+            for (unsigned i = 0; i < rows; i++) m[i] = after[64 * r + i].w[c];
+            for (unsigned i = rows; i < 64; i++) m[i] = 0;
+            turn64(m);
+            for (unsigned i = 0; i < columns; i++) under[64 * c + i].w[r] = m[i];
+        }
+}
+
+// near: comparable jobs. bytes, at, value, have: the record's whole bytes, and up to 7 bits more.
+typedef struct { set near[128], under[128], parts[256]; uint8_t bytes[280]; unsigned at, value, have, groups; } tree;
+
+static inline void put_byte(tree *t, unsigned field) {
+    t->value = t->value << 8 | field;
+    t->bytes[t->at++] = t->value >> t->have;
+}
+
+static inline void put_group(tree *t, unsigned side, unsigned children) {
+    t->value = t->value << 1 | 1;
+    if (++t->have == 8) t->bytes[t->at++] = t->value, t->have = 0;
+    put_byte(t, side << 7 | (children - 1));
+    t->groups++;
+}
+
+// What of s is not joined to x by a run of comparable jobs of s (side), or of free ones.
+static inline set apart(const tree *t, set s, unsigned x, int side) {
+    set todo = only(x), rest = less(s, todo);
+    while (some(todo) && some(rest)) {
+        set near = t->near[low(todo)], found = side ? both(rest, near) : less(rest, near);
+        todo = join(but_low(todo), found);
+        rest = less(rest, found);
+    }
+    return rest;
+}
+
+// The children of s as a group of this kind, from parts on; how many.
+static inline unsigned split(const tree *t, set s, int side, set *parts) {
+    unsigned k = 0;
+    while (some(s)) {
+        unsigned x = low(s);
+        if (!side)   // the first child has no job of the rest before it; from low to high, so that neither of two series takes long
+            for (set u = both(t->under[x], s); some(u); u = both(t->under[x], s)) x = high(u);
+        set rest = apart(t, s, x, side);
+        parts[k++] = less(s, rest);
+        s = rest;
+    }
+    return k;
+}
+
+// Writes the k children of a group, parts[0] to parts[k - 1]; 0 where one of them is crossed.
+static int children(tree *t, set *parts, unsigned k, int side) {
+    put_group(t, side, k);
+    for (unsigned i = 0; i < k; i++) {
+        if (!some(but_low(parts[i]))) {
+            put_byte(t, low(parts[i]));
+            continue;
+        }
+        unsigned j = split(t, parts[i], !side, parts + k);
+        if (j == 1 || !children(t, parts + k, j, !side)) return 0;
+    }
+    return 1;
+}
+
+// The record of the order; 0 where it is crossed.
+static int write_record(tree *t, unsigned n) {
+    set all = below(n);
+    t->at = t->groups = 0;
+    t->value = n - 1;
+    t->have = 7;
+    if (n == 1) {
+        put_byte(t, 0);
+    } else {
+        int side = 1;
+        unsigned k = split(t, all, 1, t->parts);
+        if (k == 1) side = 0, k = split(t, all, 0, t->parts);
+        if (k == 1 || !children(t, t->parts, k, side)) return 0;
+    }
+    if (t->have) t->bytes[t->at++] = t->value << (8 - t->have);
+    return 1;
+}
+
+// The first N: a before c, b before c and d, and a b, c d, a d free.
+static uint64_t first_n(const set *after, const tree *t, unsigned n) {
+    for (unsigned a = 0; a < n; a++) {
+        if (!some(after[a])) continue;
+        for (set bs = less(less(below(n), only(a)), t->near[a]); some(bs); bs = but_low(bs)) {
+            unsigned b = low(bs);
+            set ds = less(after[b], t->near[a]);
+            if (!some(ds)) continue;
+            for (set cs = both(after[a], after[b]); some(cs); cs = but_low(cs)) {
+                unsigned c = low(cs);
+                set d = less(ds, t->near[c]);
+                if (some(d)) return answer(8, a, b, c, low(d));
+            }
+        }
+    }
+    return 0;
+}
+
+// The reduced orders as rows; how many. A job with nothing after it, or found already, has nothing to add. Taken from both ends: whichever way
+// the jobs are numbered, a few have the rest after them.
+static unsigned reduce(set *reduced, const set *after, unsigned n) {
+    set busy = {{0, 0}};
+    unsigned count = 0;
+    for (unsigned i = 0; i < n; i++) busy.w[i >> 6] |= (uint64_t)some(after[i]) << (i & 63);
+    for (unsigned i = 0; i < n; i++) {
+        set far = {{0, 0}};
+        for (set s = both(after[i], busy); some(s); s = less(but_low(s), far)) far = join(far, join(after[low(s)], after[high(s)]));
+        reduced[i] = less(after[i], far);
+        count += ones(reduced[i].w[0]) + ones(reduced[i].w[1]);
+    }
+    return count;
+}
+
+uint64_t NAME(const uint8_t *sheet, size_t len, uint8_t *record, size_t record_room, uint8_t *area, size_t area_room) {
+    if (len > 32772) return 1;
+    // the last bytes of the sheet, fewer than 8, are read from here, with zeros after them
+    uint8_t tail[16] = {0};
+    const uint8_t *from = sheet;
+    size_t start = 0;
+    if (len < 8) from = memcpy(tail, sheet, len);
+
+    unsigned n = 0;
+    set after[128];
+    const uint8_t *p = number(from, &n);
+    if (p == from || *p != '\n') return answer(2, p - from, 0, 0, 0);
+    scan f = {n <= 128 ? n : 0, 0, 0, 0, p + 1};
+    memset(after, 0, f.n * sizeof *after);
+    if (len >= 8) {
+        if (!lines(&f, sheet + len - 7, after)) return answer(2, f.at - sheet, 0, 0, 0);
+        start = f.at - sheet;
+        from = f.at = memcpy(tail, f.at, len - start);
+    }
+    if (!lines(&f, from + (len - start), after)) return answer(2, start + (f.at - from), 0, 0, 0);
+
+    if (f.n == 0) return 3;
+    if (f.orders > 4096) return 4;
+    if (f.far) return answer(5, f.far - 1, 0, 0, 0);
+    if (f.own) return answer(6, f.own - 1, 0, 0, 0);
+    close(after, n);
+    for (unsigned i = 0; i < n; i++)
+        if (after[i].w[i >> 6] >> (i & 63) & 1) return answer(7, i, 0, 0, 0);
+
+    tree t;
+    turn(t.under, after, n);
+    for (unsigned i = 0; i < n; i++) t.near[i] = join(after[i], t.under[i]);
+    if (!write_record(&t, n)) return first_n(after, &t, n);
+    set reduced[128];
+    unsigned count = reduce(reduced, after, n);
+    if (record_room < t.at) return 9;
+    if (area_room < 2 * count) return 10;
+    memcpy(record, t.bytes, t.at);
+    for (unsigned i = 0; i < n; i++)
+        for (set s = reduced[i]; some(s); s = but_low(s)) {
+            *area++ = i;
+            *area++ = low(s);
+        }
+    return answer(0, t.at, count, t.groups, 0);
+}

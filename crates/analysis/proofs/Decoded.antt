@@ -1,0 +1,99 @@
+-- Bytes read as a record: the order of the sequences that were read, and the outcome.
+use Prim.Native.Nat.{ℕ, _+_, _*_, _≤_, _<_}
+use mathlib.Core.Path.{_≡_, refl, sym, ap, subst, _∙_}
+use mathlib.Core.List.{List, []}
+use mathlib.Core.Bool.{true, false, _&&_}
+use mathlib.Core.Option.{Option, none, some}
+use lib.ListN.{length, take}
+use Rattle.poset.specs.Areas.{overlay, padded}
+use Rattle.poset.specs.Lists.{aheadIn}
+use Rattle.poset.specs.Order.{Rel, Strict, covers, pairsOf}
+use Rattle.poset.specs.Tree.{Tree, leaves, reversed, groups, precedes}
+use Rattle.poset.proofs.Laws.{clash}
+use Rattle.relation.specs.Table.{holds, Inside}
+use Rattle.relation.specs.Arcs.{arcBytes}
+use Rattle.record.specs.Bits.{AllBelow}
+use Rattle.record.specs.Layout.{IsRecord}
+use Rattle.record.specs.Decode.{decode}
+use Rattle.record.proofs.Theorems.{layout-decode}
+use Rattle.reader.specs.Answer.{reading, Reads}
+use Rattle.reader.specs.declared.Reading.{Reading}
+use Rattle.reader.proofs.Realized.{order-ready, order-precedes, order-inside, order-strict}
+use Rattle.analysis.specs.Outcome.{Outcome, refuse, arcsFit, readBack, recordOutcome}
+use Rattle.analysis.specs.Result.{refusal, Gives}
+use Rattle.analysis.specs.declared.Verdict.the-variants as verdict
+use Rattle.analysis.proofs.Crossing.{gives-refusal}
+use Rattle.analysis.proofs.Taking.{yielded, gives-short, gives-long}
+use Rattle.analysis.proofs.ReadBack.{record-some}
+
+-- what was read is of the tree that the bytes decode to
+pub record Decoded (bytes : List ℕ) (x : Reading) : Type 0 where
+  pub tree : Tree
+  pub decodes : decode bytes ≡ some (x .count, tree)
+  pub spells : IsRecord bytes (x .count) tree
+  pub groups-are : x .groups ≡ groups tree
+  pub forward-is : x .forward ≡ padded (leaves tree)
+  pub reverse-is : x .reverse ≡ padded (reversed tree)
+
+module _ (bytes : List ℕ) (x : Reading) where
+  pub decoded : AllBelow 256 bytes → Reads x (reading (decode bytes)) → x .ok ≡ true → Decoded bytes x
+  decoded small reads ok = go (decode bytes) refl reads
+    where
+      go : (o : Option (ℕ × Tree)) → decode bytes ≡ o → Reads x (reading o) → Decoded bytes x
+      go none e h = absurd (clash ok (h .ok))
+      go (some (n, t)) e h =
+          let same : decode bytes ≡ some (x .count, t) = e ∙ ap (λ (k : ℕ). some (k, t)) (sym (h .count)) in
+          record {
+            tree = t;
+            decodes = same;
+            spells = layout-decode bytes (x .count) t small same;
+            groups-are = h .groups;
+            forward-is = h .forward;
+            reverse-is = h .reverse;
+          }
+
+  pub gives-11 : (area : List ℕ) → Reads x (reading (decode bytes)) → x .ok ≡ false
+      → Gives (recordOutcome (length area) bytes) [] area (refusal verdict.NoRecord) [] area
+  unfolding recordOutcome
+  gives-11 area reads bad = go (decode bytes) refl reads
+    where
+      go : (o : Option (ℕ × Tree)) → decode bytes ≡ o → Reads x (reading o)
+          → Gives (recordOutcome (length area) bytes) [] area (refusal verdict.NoRecord) [] area
+      go none e h = gives-refusal verdict.NoRecord (recordOutcome (length area) bytes) [] area 11 0 0 0 0 (rw (recordOutcome, e)) refl
+      go (some y) e h = absurd (clash (h .ok) bad)
+
+  module _ (d : Decoded bytes x) where
+    pub ready : ((x .count ≤ 128) × (length (x .forward) ≡ 128) × (length (x .reverse) ≡ 128))
+        × (AllBelow 128 (take (x .count) (x .forward)) × AllBelow 128 (take (x .count) (x .reverse)))
+    ready = order-ready (x .count) (d .tree) (d .spells .spans) _ _ (d .forward-is) (d .reverse-is) (d .spells .most)
+
+    module _ (after : List (List ℕ))
+        (held : (u v : ℕ) → holds after u v ≡ (aheadIn u v (take (x .count) (x .forward)) && aheadIn u v (take (x .count) (x .reverse)))) where
+      pub after-inside : Inside (x .count) after
+      after-inside = order-inside (x .count) (d .tree) (d .spells .spans) _ _ (d .forward-is) (d .reverse-is) after held
+
+      pub after-strict : Strict (x .count) (holds after)
+      after-strict = order-strict (x .count) (d .tree) (d .spells .spans) _ _ (d .forward-is) (d .reverse-is) after held
+
+      module _ (red : List (List ℕ)) (same : (u v : ℕ) → holds red u v ≡ covers (x .count) (holds after) u v)
+          (count : ℕ) (counts : count ≡ length (pairsOf (x .count) (holds red))) (area : List ℕ) where
+        abbrev whole : Outcome
+        whole = recordOutcome (length area) bytes
+
+        fitting : whole ≡ arcsFit (length area) (yielded (length bytes) [] (x .count) (holds after) (d .tree))
+        unfolding readBack
+        fitting =
+            record-some (length area) bytes (x .count) (d .tree) (d .decodes)
+            ∙ ap (λ (r : Rel). arcsFit (length area) (yielded (length bytes) [] (x .count) r (d .tree)))
+            (sym (order-precedes (x .count) (d .tree) (d .spells .spans) _ _ (d .forward-is) (d .reverse-is) after held))
+
+        pub back-10 : length area < 2 * count → Gives whole [] area (refusal verdict.ArcRoom) [] area
+        back-10 = gives-short (x .count) (holds after) (d .tree) (length bytes) [] red same count counts [] area whole fitting
+
+        pub back-0 : 2 * count ≤ length area → (area′ : List ℕ) → area′ ≡ overlay (arcBytes (pairsOf (x .count) (holds red))) area
+            → Gives whole [] area
+            (record { verdict = verdict.Accepted (length bytes) count (x .groups); forward = x .forward; reverse = x .reverse }) [] area′
+        unfolding overlay
+        back-0 l area′ listed =
+            gives-long (x .count) (holds after) (d .tree) (length bytes) [] red same count counts [] area whole fitting l _ _ _ [] area′
+            (d .groups-are) (d .forward-is) (d .reverse-is) refl listed

@@ -1,0 +1,81 @@
+-- What the demands claim of an outcome, of an answer's places and of an accepted input: what a reader of them must believe.
+use Prim.Native.Nat.{ℕ, _≤_, _<_}
+use mathlib.Core.Path.{_≡_}
+use mathlib.Core.List.{List, [], _∷_, _++_, List·Memᴰ}
+use mathlib.Core.Bool.{true, false, cond}
+use mathlib.Core.Logic.{_⊎_, _↔_}
+use lib.Dec.{ltb}
+use lib.ListN.{length}
+use Rattle.poset.specs.Lists.{member, count, aheadIn}
+use Rattle.poset.specs.Order.{Arc, Run, before, Four, NAt, SmallerFour, reduction, Ascending}
+use Rattle.poset.specs.Tree.{Tree, leaves, reversed, groups, precedes, Means, canonical}
+use Rattle.record.specs.Layout.{layout, IsRecord}
+use Rattle.analysis.specs.Answer.{Answer, answer}
+use Rattle.analysis.specs.Outcome.{Outcome}
+use Rattle.analysis.specs.Sentences.{Check}
+
+-- no sentence of the checks holds
+abbrev pub None : List Check → Type 0
+None [] = Unit {0}
+None (c ∷ cs) = (c .1 → ⊥) × None cs
+
+-- nothing is written, and the sequences are empty
+abbrev pub Untouched : Outcome → Type 0
+Untouched o = (o .bytes ≡ []) × (o .arcs ≡ []) × (o .forward ≡ []) × (o .reverse ≡ [])
+
+-- the element at place i is the first with P
+abbrev pub FirstAt {ℓ κ} : {A : Type ℓ} → (A → Type κ) → List A → ℕ → Type (ℓ ⊔ κ)
+FirstAt {A = A} P xs i =
+    (ls : List A) × (x : A) × (rs : List A) × (xs ≡ ls ++ x ∷ rs) × (length ls ≡ i) × P x × ((y : A) → List·Memᴰ y ls → P y → ⊥)
+
+-- the N that is lexicographically the first
+abbrev pub FirstN : ℕ → List Arc → Four → Type 0
+FirstN n arcs q = NAt n (before n arcs) q × ((p : Four) → NAt n (before n arcs) p → SmallerFour p q → ⊥)
+
+abbrev pub places : Answer → Four
+places a = (a .first, a .second, a .third, a .fourth)
+
+-- the places that an answer on a count and its arcs names
+pub record Named (n : ℕ) (arcs : List Arc) (a : Answer) : Type 0 where
+  pub outside-at : a .number ≡ 5 → FirstAt (λ (x : Arc). (n ≤ x .0) ⊎ (n ≤ x .1)) arcs (a .first)
+  pub loop-at : a .number ≡ 6 → FirstAt (λ (x : Arc). x .0 ≡ x .1) arcs (a .first)
+  pub cycle-at : a .number ≡ 7 → Run arcs (a .first) (a .first) × ((v : ℕ) → v < a .first → Run arcs v v → ⊥)
+  pub n-at : a .number ≡ 8 → FirstN n arcs (places a)
+
+-- the places that it does not name are 0
+abbrev pub Unnamed : Answer → Type 0
+Unnamed a =
+    (member (a .number) (0 ∷ 2 ∷ 5 ∷ 6 ∷ 7 ∷ 8 ∷ []) ≡ false → a .first ≡ 0)
+    × (member (a .number) (0 ∷ 8 ∷ []) ≡ false → (a .second ≡ 0) × (a .third ≡ 0) × (a .fourth ≡ 0))
+
+-- what an accepted count and its arcs yield
+pub record Yield (n : ℕ) (arcs : List Arc) (o : Outcome) : Type 0 where
+  pub tree : Tree
+  pub means : Means n tree (before n arcs)
+  pub plain : canonical tree ≡ true
+  pub only : (t : Tree) → Means n t (before n arcs) → canonical t ≡ true → t ≡ tree
+  pub verdict-is : o .verdict ≡ answer 0 (length (o .bytes)) (length (o .arcs)) (groups tree) 0
+  pub bytes-are : o .bytes ≡ layout n tree
+  pub spells : IsRecord (o .bytes) n tree
+  pub arcs-are : o .arcs ≡ reduction n (before n arcs)
+  pub ascending : Ascending (o .arcs)
+  pub reduced : (u v : ℕ) → List·Memᴰ (u, v) (o .arcs) ↔ (Run arcs u v × ((w : ℕ) → Run arcs u w → Run arcs w v → ⊥))
+  pub forward-is : o .forward ≡ leaves tree
+  pub reverse-is : o .reverse ≡ reversed tree
+  pub forward-once : (u : ℕ) → count u (o .forward) ≡ cond (ltb u n) 1 0
+  pub reverse-once : (u : ℕ) → count u (o .reverse) ≡ cond (ltb u n) 1 0
+  pub realized : (u v : ℕ) → u < n → v < n → Run arcs u v ↔ ((aheadIn u v (o .forward) ≡ true) × (aheadIn u v (o .reverse) ≡ true))
+
+-- what bytes that are a record yield
+pub record RecordYield (bytes : List ℕ) (o : Outcome) : Type 0 where
+  pub jobs : ℕ
+  pub tree : Tree
+  pub spells : IsRecord bytes jobs tree
+  pub verdict-is : o .verdict ≡ answer 0 (length bytes) (length (o .arcs)) (groups tree) 0
+  pub arcs-are : o .arcs ≡ reduction jobs (precedes tree)
+  pub forward-is : o .forward ≡ leaves tree
+  pub reverse-is : o .reverse ≡ reversed tree
+
+-- the same answer, reduced arcs and sequences
+abbrev pub Alike : Outcome → Outcome → Type 0
+Alike a b = (a .verdict ≡ b .verdict) × (a .arcs ≡ b .arcs) × (a .forward ≡ b .forward) × (a .reverse ≡ b .reverse)

@@ -1,0 +1,4 @@
+pub mod Bounds
+pub mod Packing
+pub mod Telling
+pub mod Theorems

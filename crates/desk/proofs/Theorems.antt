@@ -1,0 +1,16 @@
+-- All that this crate promises beside its calls' contracts: an answer can be taken from its number.
+use Prim.Native.Nat.{ℕ}
+use mathlib.Core.Path.{_≡_}
+use mathlib.Core.List.{List}
+use Rattle.record.specs.Bits.{AllBelow}
+use Rattle.analysis.specs.Outcome.{Rooms, sheetOutcome, recordOutcome}
+use Rattle.desk.specs.Packed.{packed, unpacked}
+use Rattle.desk.proofs.Bounds.{sheet-narrow, record-narrow}
+use Rattle.desk.proofs.Packing.{unpacked-packed}
+
+pub unpacked-sheet : (rooms : Rooms) (s : List ℕ) → unpacked (packed (sheetOutcome rooms s .verdict)) ≡ sheetOutcome rooms s .verdict
+unpacked-sheet rooms s = unpacked-packed (sheetOutcome rooms s .verdict) (sheet-narrow rooms s)
+
+pub unpacked-record
+    : (room : ℕ) (bytes : List ℕ) → AllBelow 256 bytes → unpacked (packed (recordOutcome room bytes .verdict)) ≡ recordOutcome room bytes .verdict
+unpacked-record room bytes below = unpacked-packed (recordOutcome room bytes .verdict) (record-narrow room bytes below)

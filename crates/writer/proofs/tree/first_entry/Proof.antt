@@ -1,0 +1,29 @@
+-- `tree::first_entry`: all jobs, taken apart as a series.
+use borrow.Author.Needs.{needs}
+use mathlib.Core.Path.{refl, sym, _∙_}
+use native.Mathlib.Omega.{arith}
+use Rattle.poset.proofs.Laws.{ltb-true}
+use Rattle.writer.proofs.tree.first_entry.Statement.{statement}
+use Rattle.writer.proofs.tree.first_entry.Tie as tie
+
+all-below-requires : tie.Need-all-below-requires
+all-below-requires c κs = c .pre .0
+
+split-requires : tie.Need-split-requires
+split-requires c κs =
+    let s = c .before .before in
+    ((λ v q. omega (arith, ltb-true v (s .args .n) (sym (c .before .all-below .ensures v) ∙ q), s .pre .0)), s .pre .1)
+
+element-set-from-all : tie.Need-element-set-from-all
+element-set-from-all c = search needs
+
+element-write-kinds : tie.Need-element-write-kinds
+element-write-kinds c = search needs
+
+returns : tie.Need-returns
+returns c =
+    let all = c .before .before .all-below in
+    record { all = all .result; is-all = all .ensures; on-stack = refl; kind = refl; cut = c .split .ensures }
+
+pub first-entry-spec : {M : Type 1} → statement M
+first-entry-spec = tie.close (tie.spec all-below-requires split-requires element-set-from-all element-write-kinds returns)

@@ -1,0 +1,52 @@
+//! The writing of crate `writer`, called from C by bench/writer. Arcs that do not fit are refused.
+use relation::order;
+use writer::writing;
+ghost use Prim.Native.Nat.{ℕ, _*_, _<_, _≤_};
+ghost use mathlib.Core.Path.{_≡_};
+ghost use Rattle.poset.specs.Order.{Strict};
+ghost use Rattle.poset.specs.Decompose.{treeOf};
+ghost use Rattle.relation.specs.Table.{holds, Inside};
+ghost use Rattle.relation.specs.Arcs.{pairs};
+ghost use Rattle.writer.specs.Written.{written};
+ghost use Rattle.writer_bench.specs.Rounds.{bytesWritten};
+
+// The record of an order, written so many times over: its bytes in all.
+fn repeated(after: &[[u64; 2]; 128], under: &[[u64; 2]; 128], n: usize, rounds: usize) -> usize
+    requires { ⌜ (0 < n) × (n ≤ 128) × (rounds ≤ 1000000) ⌝ }
+    requires { ⌜ Strict n (holds (now after)) ⌝ }
+    requires { ⌜ Inside n (now after) ⌝ }
+    requires { ⌜ ((u v : ℕ) → holds (now under) u v ≡ holds (now after) v u) ⌝ }
+    ensures { λ r. ⌜ r ≡ rounds * (written n (treeOf n (holds (now (after .entry)))) .count) ⌝ }
+{
+    let mut sum = 0;
+    let mut i = 0;
+    while i < rounds {
+        let w = writing::write_record(after, under, n);
+        sum += w.count;
+        i += 1;
+    }
+    sum
+}
+
+// The record of the arcs' order, written so many times over: its bytes in all. At most a million rounds, and one job at least.
+#[no_mangle]
+pub extern "C" fn bench_write(arcs: &[u16], n: u16, rounds: usize) -> usize
+    ensures { λ r. ⌜ r ≡ bytesWritten rounds n (pairs (now (arcs .entry))) ⌝ }
+{
+    if n < 1 {
+        return 0;
+    }
+    if 1000000 < rounds {
+        return 0;
+    }
+    if !relation_bench::fits(arcs, n) {
+        return 0;
+    }
+    let jobs = n as usize;
+    let after = relation_bench::closed(arcs, jobs);
+    if !relation_bench::acyclic(&after, jobs) {
+        return 0;
+    }
+    let under = order::transposed(after, jobs);
+    repeated(&after, &under, jobs, rounds)
+}

@@ -1,0 +1,120 @@
+/* desk FILE: what the sheet in FILE gives, in words.
+ *
+ *     rt staticlib desk
+ *     cc -std=c11 -Wall -Wextra -O2 -Iinclude examples/desk.c target/staticlib/libdesk.a -o desk
+ *
+ * Exit status: 0 accepted, 1 refused, 2 a wrong usage or a file that cannot be read, 3 the record reads back otherwise. */
+
+#define _POSIX_C_SOURCE 200809L
+#include <fcntl.h>
+#include <inttypes.h>
+#include <stdio.h>
+#include <string.h>
+#include <unistd.h>
+
+#include "ordersheet.h"
+
+/* One byte over the longest sheet is enough to have it refused. */
+static uint8_t sheet[ORDERSHEET_SHEET + 1];
+static uint8_t record[ORDERSHEET_RECORD_AREA];
+static uint8_t reduced[ORDERSHEET_REDUCED_AREA];
+static uint8_t reread[ORDERSHEET_REDUCED_AREA];
+static char text[8192];
+
+/* Reads a file as far as there is room; its length, or -1. */
+static ssize_t slurp(const char *name, uint8_t *bytes, size_t room)
+{
+    int file = open(name, O_RDONLY);
+    if (file < 0)
+        return -1;
+    size_t length = 0;
+    ssize_t more = 1;
+    while (length < room && more > 0) {
+        more = read(file, bytes + length, room - length);
+        if (more > 0)
+            length += (size_t)more;
+    }
+    close(file);
+    return more < 0 ? -1 : (ssize_t)length;
+}
+
+static void explain(uint64_t answer)
+{
+    unsigned first = ordersheet_first(answer);
+    printf("refused %u: ", ordersheet_number(answer));
+    switch (ordersheet_number(answer)) {
+    case 1:
+        printf("the sheet is longer than %d bytes\n", ORDERSHEET_SHEET);
+        break;
+    case 2:
+        printf("the sheet breaks the line form at byte %u\n", first);
+        break;
+    case 3:
+        printf("the job count is 0 or above %d\n", ORDERSHEET_JOBS);
+        break;
+    case 4:
+        printf("there are more than %d orders\n", ORDERSHEET_REDUCED_AREA / 2);
+        break;
+    case 5:
+        printf("order %u names a job not below the count\n", first);
+        break;
+    case 6:
+        printf("order %u puts a job before itself\n", first);
+        break;
+    case 7:
+        printf("there is a circle: job %u comes before itself\n", first);
+        break;
+    case 8:
+        printf("the order is crossed: of jobs %u, %u, %u and %u the first and the second are before the third, "
+               "the second is before the fourth, and the other pairs are free\n",
+               first, ordersheet_second(answer), ordersheet_third(answer), ordersheet_fourth(answer));
+        break;
+    case 9:
+        printf("the record area is shorter than the record\n");
+        break;
+    case 10:
+        printf("the area for reduced orders is shorter than two bytes for each\n");
+        break;
+    case 11:
+        printf("the bytes are not the record of any plain tree\n");
+        break;
+    }
+}
+
+static void show(unsigned bytes, unsigned orders, unsigned groups)
+{
+    printf("accepted: a record of %u bytes, %u reduced orders, %u groups\nrecord ", bytes, orders, groups);
+    for (unsigned i = 0; i < bytes; i++)
+        printf("%02x", record[i]);
+    printf("\n");
+    for (unsigned i = 0; i < orders; i++)
+        printf("job %u before job %u\n", reduced[2 * i], reduced[2 * i + 1]);
+}
+
+int main(int arguments, char **argument)
+{
+    if (arguments != 2) {
+        fprintf(stderr, "usage: desk FILE\n");
+        return 2;
+    }
+    ssize_t length = slurp(argument[1], sheet, sizeof sheet);
+    if (length < 0) {
+        perror(argument[1]);
+        return 2;
+    }
+    /* A buffer of its own, so that the program allocates nothing. */
+    setvbuf(stdout, text, _IOFBF, sizeof text);
+    uint64_t answer = ordersheet_analyse(sheet, (size_t)length, record, sizeof record, reduced, sizeof reduced);
+    if (ordersheet_number(answer) != 0) {
+        explain(answer);
+        return 1;
+    }
+    unsigned bytes = ordersheet_first(answer), orders = ordersheet_second(answer);
+    uint64_t again = ordersheet_read(record, bytes, reread, sizeof reread);
+    if (again != answer || memcmp(reduced, reread, 2 * orders) != 0) {
+        fprintf(stderr, "the record reads back otherwise: %" PRIx64 " and %" PRIx64 "\n", answer, again);
+        return 3;
+    }
+    show(bytes, orders, ordersheet_third(answer));
+    return 0;
+}

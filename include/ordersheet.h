@@ -1,0 +1,66 @@
+/* Order sheets and cutting records: the planning desk's two calls.
+ *
+ * Each call hands back its answer as one 64-bit number:
+ *
+ *     number + 2^8 * first + 2^24 * second + 2^40 * third + 2^48 * fourth
+ *
+ * Number 0 is acceptance; its places are the record's bytes, the reduced orders, the groups in the tree, and 0.
+ * The others are refusals, tested in the order 1 to 10 for a sheet and 11, 10 for a record. A place that is not
+ * named here is 0. Orders, jobs and bytes are counted from 0.
+ *
+ *      1  the sheet is longer than 32,772 bytes
+ *      2  the sheet breaks the line form; first: the byte where it does, or the sheet's length where it stops short
+ *      3  the job count is 0 or above 128
+ *      4  there are more than 4,096 orders, repeats counted
+ *      5  an order names a job not below the count; first: the first such order
+ *      6  an order puts a job before itself; first: the first such order
+ *      7  there is a circle; first: the smallest job before itself
+ *      8  the order is crossed; first to fourth: the first N's a, b, c, d
+ *      9  the record area is shorter than the record
+ *     10  the area for reduced orders is shorter than two bytes for each
+ *     11  the bytes offered as a record are not the record of any plain tree
+ *
+ * A refusal leaves the areas untouched. On acceptance the bytes after the written ones stay. ORDERSHEET_RECORD_AREA
+ * and ORDERSHEET_REDUCED_AREA bytes are always enough, and 9 and 10 are then never given. Any lengths may be lent.
+ *
+ * A pointer is good for as many bytes as the length after it says; where that is 0 it is not followed. An area
+ * overlaps neither the other area nor the input. The calls never fail otherwise, whatever the input is: they
+ * allocate nothing, keep nothing between calls, and may run on several threads at once. A call takes less than
+ * ORDERSHEET_STACK bytes of stack: tests/stack measures up to 45,000 for a sheet and 73,000 for bytes offered as a
+ * record, at their worst groups in groups that are none. */
+
+#ifndef ORDERSHEET_H
+#define ORDERSHEET_H
+
+#include <stddef.h>
+#include <stdint.h>
+
+#ifdef __cplusplus
+extern "C" {
+#endif
+
+#define ORDERSHEET_JOBS 128           /* the most jobs */
+#define ORDERSHEET_SHEET 32772        /* bytes of the longest sheet */
+#define ORDERSHEET_RECORD_AREA 272    /* bytes of the longest record */
+#define ORDERSHEET_REDUCED_AREA 8192  /* two bytes for each of the most reduced orders, 4,096 */
+#define ORDERSHEET_STACK 98304        /* bytes of stack that are enough for a call */
+
+/* The analysis of a sheet. On acceptance the record is in the one area and the reduced orders, two bytes each, in the other. */
+uint64_t ordersheet_analyse(const uint8_t *sheet, size_t sheet_length, uint8_t *record, size_t record_room,
+                            uint8_t *reduced, size_t reduced_room);
+
+/* The reading of a record. On acceptance the reduced orders, two bytes each, are in the area. */
+uint64_t ordersheet_read(const uint8_t *record, size_t record_length, uint8_t *reduced, size_t reduced_room);
+
+/* An answer's number and places. */
+static inline unsigned ordersheet_number(uint64_t answer) { return answer & 0xff; }
+static inline unsigned ordersheet_first(uint64_t answer) { return answer >> 8 & 0xffff; }
+static inline unsigned ordersheet_second(uint64_t answer) { return answer >> 24 & 0xffff; }
+static inline unsigned ordersheet_third(uint64_t answer) { return answer >> 40 & 0xff; }
+static inline unsigned ordersheet_fourth(uint64_t answer) { return answer >> 48 & 0xffff; }
+
+#ifdef __cplusplus
+}
+#endif
+
+#endif
