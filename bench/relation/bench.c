@@ -16,6 +16,7 @@ static inline set or_(set a, set b) { return (set){{a.w[0] | b.w[0], a.w[1] | b.
 static inline set but(set a, set b) { return (set){{a.w[0] & ~b.w[0], a.w[1] & ~b.w[1]}}; }
 static inline int none(set a) { return !(a.w[0] | a.w[1]); }
 static inline int low(set a) { return a.w[0] ? __builtin_ctzll(a.w[0]) : 64 + __builtin_ctzll(a.w[1]); }
+static inline int high(set a) { return a.w[1] ? 127 - __builtin_clzll(a.w[1]) : 63 - __builtin_clzll(a.w[0]); }
 #define EACH(j, s) for (int q_##j = 0, j; q_##j < 2; q_##j++) for (uint64_t x_##j = (s).w[q_##j]; x_##j && (j = 64 * q_##j + __builtin_ctzll(x_##j), 1); x_##j &= x_##j - 1)
 
 // at most 128 jobs, and the arcs name them alone
@@ -23,26 +24,38 @@ static int fits(const uint16_t *arcs, size_t numbers, int n) {
     for (size_t i = 0; i + 1 < numbers; i += 2) if (arcs[i] >= n || arcs[i + 1] >= n) return 0;
     return n <= 128;
 }
-static void closed(const uint16_t *arcs, size_t numbers, int n, set after[128]) {
-    memset(after, 0, 128 * sizeof(set));
-    for (size_t i = 0; i + 1 < numbers; i += 2) put(&after[arcs[i]], arcs[i + 1]);
-    for (int k = 0; k < n; k++) {
-        set rk = after[k];
-        for (int i = 0; i < n; i++) {
-            uint64_t m = -(after[i].w[k >> 6] >> (k & 63) & 1);
-            after[i].w[0] |= rk.w[0] & m; after[i].w[1] |= rk.w[1] & m;
-        }
+// Warshall on two columns of words: where a word of the one has bit at, a goes into it and b into the one beside it
+static void spread(uint64_t *restrict col, uint64_t *restrict other, int at, uint64_t a, uint64_t b, int n) {
+    for (int i = 0; i < n; i++) {
+        uint64_t m = -(col[i] >> at & 1);
+        col[i] |= a & m; other[i] |= b & m;
     }
 }
+static void closed(const uint16_t *arcs, size_t numbers, int n, set after[128]) {
+    uint64_t lo[128], hi[128];
+    memset(after, 0, 128 * sizeof(set));
+    for (size_t i = 0; i + 1 < numbers; i += 2) put(&after[arcs[i]], arcs[i + 1]);
+    for (int i = 0; i < n; i++) { lo[i] = after[i].w[0]; hi[i] = after[i].w[1]; }
+    for (int k = 0; k < n; k++) {
+        if (!(lo[k] | hi[k])) continue;
+        if (k < 64) spread(lo, hi, k, lo[k], hi[k], n); else spread(hi, lo, k - 64, hi[k], lo[k], n);
+    }
+    for (int i = 0; i < n; i++) after[i] = (set){{lo[i], hi[i]}};
+}
 __attribute__((noinline)) static size_t c_reduce(const uint16_t *arcs, size_t numbers, uint16_t n, uint8_t *area, size_t room) {
-    set after[128], covers[128];
+    set after[128], covers[128], busy = {{0, 0}};
     size_t count = 0, k = 0;
     if (!fits(arcs, numbers, n)) return 0;
     closed(arcs, numbers, n, after);
     for (int i = 0; i < n; i++) if (after[i].w[i >> 6] >> (i & 63) & 1) return 0;
+    for (int i = 0; i < n; i++) if (!none(after[i])) put(&busy, i);
     for (int i = 0; i < n; i++) {
         set far = {{0, 0}};
-        for (set s = after[i]; !none(s); s = but(s, far)) { int j = low(s); drop(&s, j); far = or_(far, after[j]); }
+        for (set s = and_(after[i], busy); !none(s); s = but(s, far)) {
+            int j = low(s);
+            far = or_(far, or_(after[j], after[high(s)]));
+            drop(&s, j);
+        }
         covers[i] = but(after[i], far);
         count += __builtin_popcountll(covers[i].w[0]) + __builtin_popcountll(covers[i].w[1]);
     }
