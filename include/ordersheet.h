@@ -26,8 +26,8 @@
  * A pointer is good for as many bytes as the length after it says; where that is 0 it is not followed. An area
  * overlaps neither the other area nor the input. The calls never fail otherwise, whatever the input is: they
  * allocate nothing, keep nothing between calls, and may run on several threads at once. A call takes less than
- * ORDERSHEET_STACK bytes of stack: tests/stack measures up to 45,000 for a sheet and 73,000 for bytes offered as a
- * record, at their worst groups in groups that are none. */
+ * ORDERSHEET_STACK bytes of stack: tests/stack measures up to 40,000 for a sheet and 16,000 for bytes offered as a
+ * record. */
 
 #ifndef ORDERSHEET_H
 #define ORDERSHEET_H
@@ -43,7 +43,7 @@ extern "C" {
 #define ORDERSHEET_SHEET 32772        /* bytes of the longest sheet */
 #define ORDERSHEET_RECORD_AREA 272    /* bytes of the longest record */
 #define ORDERSHEET_REDUCED_AREA 8192  /* two bytes for each of the most reduced orders, 4,096 */
-#define ORDERSHEET_STACK 98304        /* bytes of stack that are enough for a call */
+#define ORDERSHEET_STACK 65536        /* bytes of stack that are enough for a call */
 
 /* The analysis of a sheet. On acceptance the record is in the one area and the reduced orders, two bytes each, in the other. */
 uint64_t ordersheet_analyse(const uint8_t *sheet, size_t sheet_length, uint8_t *record, size_t record_room,

@@ -108,6 +108,57 @@ whole:
     return placed == n && at <= 8 * length && 8 * length < at + 8 && (uint8_t)(bytes[at >> 3] << (at & 7)) == 0;
 }
 
+// The same by two functions that call each other, as the product reads: what is read so far, and a group's children.
+typedef struct { const uint8_t *bytes; unsigned n, at, placed, groups; set seen; reading *r; } place;
+static int children(place *s, unsigned kind, unsigned more, part *p);
+static inline int child(place *s, unsigned kind, part *p) {
+    unsigned bits = (s->bytes[s->at >> 3] << 8 | s->bytes[(s->at >> 3) + 1]) << (s->at & 7);
+    if (bits & 0x8000) {
+        unsigned other = bits >> 14 & 1, more = bits >> 7 & 127;
+        if (more == 0 || s->groups + 1 == s->n || other == kind) return 0;
+        s->groups++, s->at += 9;
+        return children(s, other, more, p);
+    }
+    unsigned job = bits >> 8 & 127;
+    if (job >= s->n || has(s->seen, job)) return 0;
+    s->seen.w[job >> 6] |= 1ull << (job & 63);
+    s->r->forward[s->placed++] = job;
+    s->at += 8;
+    *p = (part){job, job, job};
+    return 1;
+}
+static int chain(place *s, unsigned more, part *p) {
+    part q;
+    if (!child(s, CHAIN, p)) return 0;
+    while (more--) {
+        if (!child(s, CHAIN, &q)) return 0;
+        s->r->ahead[q.first] = p->last;
+        *p = (part){q.least < p->least ? q.least : p->least, p->first, q.last};
+    }
+    return 1;
+}
+static int beside(place *s, unsigned more, part *p) {
+    part q;
+    if (!child(s, SIDE, p)) return 0;
+    for (unsigned floor = p->least; more--; floor = q.least) {
+        if (!child(s, SIDE, &q) || q.least <= floor) return 0;
+        s->r->ahead[p->first] = q.last;
+        p->first = q.first;
+    }
+    return 1;
+}
+static int children(place *s, unsigned kind, unsigned more, part *p) { return kind == CHAIN ? chain(s, more, p) : beside(s, more, p); }
+static int read_by_calls(const uint8_t *record, size_t length, reading *r) {
+    uint8_t bytes[LONGEST + 8];
+    if (length == 0 || length > LONGEST) return 0;
+    memcpy(bytes, record, length);
+    memset(bytes + length, 0, 8);
+    place s = {bytes, (bytes[0] >> 1) + 1, 7, 0, 0, {{0, 0}}, r};
+    if (!child(&s, NEITHER, &r->whole)) return 0;
+    r->n = s.n, r->groups = s.groups;
+    return s.placed == s.n && s.at <= 8 * length && 8 * length < s.at + 8 && (uint8_t)(bytes[s.at >> 3] << (s.at & 7)) == 0;
+}
+
 // The table of the order: one job is before another where it stands ahead of it in both sequences.
 static inline void order(const reading *r, set *after) {
     set passed = {{0, 0}};
@@ -155,6 +206,13 @@ static uint64_t c_read(const uint8_t *record, size_t length, uint8_t *area, size
     order(&r, after);
     return answer(&r, length, reduce(r.rows, after, r.n), area, room);
 }
+static uint64_t c_calls(const uint8_t *record, size_t length, uint8_t *area, size_t room) {
+    reading r;
+    set after[128];
+    if (!read_by_calls(record, length, &r)) return NO_RECORD;
+    order(&r, after);
+    return answer(&r, length, reduce(r.rows, after, r.n), area, room);
+}
 // No table: the reduced orders from the tree.
 static uint64_t c_tree(const uint8_t *record, size_t length, uint8_t *area, size_t room) {
     reading r;
@@ -164,8 +222,8 @@ static uint64_t c_tree(const uint8_t *record, size_t length, uint8_t *area, size
 }
 
 typedef uint64_t reader(const uint8_t *, size_t, uint8_t *, size_t);
-enum { SIDES = 3, ROWS = 64, ROUNDS_AT_ONCE = 50, AREA = 8300, DAMAGED = 200000 };
-static reader *const side[SIDES] = {ordersheet_read, c_read, c_tree};
+enum { SIDES = 4, ROWS = 64, ROUNDS_AT_ONCE = 50, AREA = 8300, DAMAGED = 200000 };
+static reader *const side[SIDES] = {ordersheet_read, c_read, c_calls, c_tree};
 static uint8_t area[SIDES][AREA];
 
 // The answer of every side with this much room, which has to be the same; bytes past the room are compared too.
@@ -349,14 +407,14 @@ int main(int argc, char **argv) {
                     double t = calls(&rows[i], (j + k) % SIDES, rows[i].many);
                     if (t < rows[i].best[(j + k) % SIDES]) rows[i].best[(j + k) % SIDES] = t;
                 }
-    printf("%-34s %5s  %-17s %8s %8s %6s %8s %6s\n", "record", "bytes", "answer", "rattle", "C", "ratio", "by tree", "ratio");
+    printf("%-34s %5s  %-17s %8s %8s %6s %8s %6s %8s %6s\n", "record", "bytes", "answer", "rattle", "C", "ratio", "by calls", "ratio", "by tree", "ratio");
     for (int i = 0; i < count; i++) {
         const row *r = &rows[i];
         char said[40];
         if (ordersheet_number(r->answer)) snprintf(said, sizeof said, "refused %u", ordersheet_number(r->answer));
         else snprintf(said, sizeof said, "accepted %u %u", ordersheet_second(r->answer), ordersheet_third(r->answer));
-        printf("%-34s %5zu  %-17s %8.0f %8.0f %6.2f %8.0f %6.2f\n", r->name, r->length, said, r->best[0], r->best[1], r->best[0] / r->best[1],
-            r->best[2], r->best[0] / r->best[2]);
+        printf("%-34s %5zu  %-17s %8.0f %8.0f %6.2f %8.0f %6.2f %8.0f %6.2f\n", r->name, r->length, said, r->best[0], r->best[1],
+            r->best[0] / r->best[1], r->best[2], r->best[0] / r->best[2], r->best[3], r->best[0] / r->best[3]);
     }
     return 0;
 }

@@ -21,8 +21,9 @@ static inline int high(set a) { return a.w[1] ? 127 - __builtin_clzll(a.w[1]) : 
 
 // at most 128 jobs, and the arcs name them alone
 static int fits(const uint16_t *arcs, size_t numbers, int n) {
-    for (size_t i = 0; i + 1 < numbers; i += 2) if (arcs[i] >= n || arcs[i + 1] >= n) return 0;
-    return n <= 128;
+    uint16_t top = 0;
+    for (size_t i = 0; i < numbers / 2 * 2; i++) if (arcs[i] > top) top = arcs[i];
+    return n <= 128 && (numbers < 2 || top < n);
 }
 // Warshall on two columns of words: where a word of the one has bit at, a goes into it and b into the one beside it
 static void spread(uint64_t *restrict col, uint64_t *restrict other, int at, uint64_t a, uint64_t b, int n) {
@@ -34,10 +35,13 @@ static void spread(uint64_t *restrict col, uint64_t *restrict other, int at, uin
 static void closed(const uint16_t *arcs, size_t numbers, int n, set after[128]) {
     uint64_t lo[128], hi[128];
     memset(after, 0, 128 * sizeof(set));
-    for (size_t i = 0; i + 1 < numbers; i += 2) put(&after[arcs[i]], arcs[i + 1]);
-    for (int i = 0; i < n; i++) { lo[i] = after[i].w[0]; hi[i] = after[i].w[1]; }
+    // one arc of each half of the list at a time: arcs side by side are often of one row, and the second would wait for the first
+    const uint16_t *other = arcs + numbers / 4 * 2;
+    for (size_t i = 0; i < numbers / 2 - numbers / 4; i++) { put(&after[arcs[2 * i]], arcs[2 * i + 1]); put(&after[other[2 * i]], other[2 * i + 1]); }
+    set reached = {{0, 0}};
+    for (int i = 0; i < n; i++) { lo[i] = after[i].w[0]; hi[i] = after[i].w[1]; reached = or_(reached, after[i]); }
     for (int k = 0; k < n; k++) {
-        if (!(lo[k] | hi[k])) continue;
+        if (!(lo[k] | hi[k]) || !(reached.w[k >> 6] >> (k & 63) & 1)) continue;
         if (k < 64) spread(lo, hi, k, lo[k], hi[k], n); else spread(hi, lo, k - 64, hi[k], lo[k], n);
     }
     for (int i = 0; i < n; i++) after[i] = (set){{lo[i], hi[i]}};

@@ -70,17 +70,28 @@ broken:
     return 0;
 }
 
-// The transitive closure (Warshall), no branch in the inner loop: a mask of all ones where i is before k.
-static void close(set *after, unsigned n) {
-    for (unsigned k = 0; k < n; k++) {
-        set beyond = after[k];
-        if (!some(beyond)) continue;
-        for (unsigned i = 0; i < n; i++) {
-            uint64_t mask = -(after[i].w[k >> 6] >> (k & 63) & 1);
-            after[i].w[0] |= beyond.w[0] & mask;
-            after[i].w[1] |= beyond.w[1] & mask;
-        }
+// Where a word of the one column has bit at, a goes into it, and b into the word beside it.
+static inline void spread(uint64_t *restrict col, uint64_t *restrict other, unsigned at, uint64_t a, uint64_t b, unsigned n) {
+    for (unsigned i = 0; i < n; i++) {
+        uint64_t mask = col[i] >> at & 1 ? ~0ull : 0;
+        col[i] |= a & mask;
+        other[i] |= b & mask;
     }
+}
+// The transitive closure (Warshall) on two columns of words, several rows at a time; not through a job that is before none or that none is before.
+static void close(set *after, unsigned n) {
+    uint64_t lo[128], hi[128];
+    set reached = {{0, 0}};
+    for (unsigned i = 0; i < n; i++) {
+        lo[i] = after[i].w[0], hi[i] = after[i].w[1];
+        reached = join(reached, after[i]);
+    }
+    for (unsigned k = 0; k < n; k++) {
+        if (!(lo[k] | hi[k]) || !(reached.w[k >> 6] >> (k & 63) & 1)) continue;
+        if (k < 64) spread(lo, hi, k, lo[k], hi[k], n);
+        else spread(hi, lo, k - 64, hi[k], lo[k], n);
+    }
+    for (unsigned i = 0; i < n; i++) after[i] = (set){{lo[i], hi[i]}};
 }
 
 // Hacker's Delight, 7-3: a square of 64 by 64 bits turned in place.

@@ -5,11 +5,11 @@ use mathlib.Core.List.{List, flatMap}
 use mathlib.Core.Logic.{inl, inr, _≢_}
 use native.Mathlib.Omega.{arith}
 use lib.ListN.{replicate}
-use Rattle.poset.specs.Areas.{overlay, padded}
-use Rattle.poset.specs.Lists.{any, member}
+use Rattle.poset.specs.Areas.{overlay, padded, arcBytes}
+use Rattle.poset.specs.Lists.{exists, member}
 use Rattle.poset.specs.Order.{Arc}
 use Rattle.poset.proofs.Laws.{clash}
-use Rattle.relation.specs.Arcs.{pairs, arcBytes}
+use Rattle.relation.specs.Arcs.{pairs}
 use Rattle.sheet.specs.Text.{LineForm}
 use Rattle.sheet.specs.Scan.{broken, scan}
 use Rattle.sheet.proofs.Theorems.{scan-sheet}
@@ -24,7 +24,7 @@ use Rattle.analysis.proofs.Inputs.{SheetFate, oversize, misformed, form
 
 -- a sheet
 
-scan-clash : (s : List ℕ) {p : ℕ} → scan s ≡ broken p → (n : ℕ) (arcs : List Arc) → LineForm s n arcs → ⊥
+scan-clash : (s : List ℕ) {p : ℕ} {ahead : List Arc} → scan s ≡ broken p ahead → (n : ℕ) (arcs : List Arc) → LineForm s n arcs → ⊥
 scan-clash s e n arcs f = let h = scan-sheet s n arcs .1 f in let z : _≡_ {A = ℕ} 0 1 = cc in omega arith
 
 same-form : (s : List ℕ) {n m : ℕ} {xs ys : List Arc} → LineForm s n xs → LineForm s m ys → (n ≡ m) × (xs ≡ ys)
@@ -46,11 +46,12 @@ module _ (rooms : Rooms) (s : List ℕ) where
   sheet-untouched (misformed l q) e = (refl, refl, refl, refl)
   sheet-untouched (formed {n = n} {arcs = arcs} l f h) e = fate-untouched rooms n arcs h e
 
-  pub sheet-broken : {o : Outcome} → SheetFate rooms s o → o .verdict .number ≡ 2 → scan s ≡ broken (o .verdict .first)
+  pub sheet-broken
+      : {o : Outcome} → SheetFate rooms s o → o .verdict .number ≡ 2 → {p : ℕ} → o .verdict .first ≡ p → (ahead : List Arc) × (scan s ≡ broken p ahead)
   unfolding refuse
-  sheet-broken (oversize l) e = absurd (omega arith)
-  sheet-broken (misformed l q) e = q
-  sheet-broken (formed {n = n} {arcs = arcs} l f h) e = absurd (fate-not-2 rooms n arcs h e)
+  sheet-broken (oversize l) e h = absurd (omega arith)
+  sheet-broken (misformed {ahead = ahead} l q) e h = (ahead, q ∙ ap (λ k. broken k ahead) h)
+  sheet-broken (formed {n = n} {arcs = arcs} l f h) e g = absurd (fate-not-2 rooms n arcs h e)
 
   pub sheet-named : (n : ℕ) (arcs : List Arc) → LineForm s n arcs → {o : Outcome} → SheetFate rooms s o → Named n arcs (o .verdict)
   unfolding refuse
@@ -61,7 +62,7 @@ module _ (rooms : Rooms) (s : List ℕ) where
       subst₂ (λ (k : ℕ) (ys : List Arc). Named k ys (o .verdict)) (e .0) (e .1) (fate-named rooms m xs h)
 
   pub sheet-unnamed : {o : Outcome} → SheetFate rooms s o → Unnamed (o .verdict)
-  unfolding refuse member any
+  unfolding refuse member exists
   sheet-unnamed (oversize l) = (λ _. refl, λ _. (refl, refl, refl))
   sheet-unnamed (misformed l q) = (λ e. absurd (clash refl e), λ _. (refl, refl, refl))
   sheet-unnamed (formed {n = n} {arcs = arcs} l f h) = fate-unnamed rooms n arcs h
@@ -121,7 +122,7 @@ module _ (room : ℕ) (bytes : List ℕ) where
   record-untouched (read r l) e = absurd (e refl)
 
   pub record-unnamed : {o : Outcome} → RecordFate room bytes o → Unnamed (o .verdict)
-  unfolding refuse readBack member any
+  unfolding refuse readBack member exists
   record-unnamed (misspelt h) = (λ _. refl, λ _. (refl, refl, refl))
   record-unnamed (broad r l) = (λ _. refl, λ _. (refl, refl, refl))
   record-unnamed (read r l) = (λ e. absurd (clash refl e), λ e. absurd (clash refl e))

@@ -3,14 +3,14 @@ use Prim.Native.Nat.{ℕ}
 use mathlib.Core.Path.{_≡_, refl}
 use mathlib.Core.List.{List, [], _∷_, map, flatMap}
 use mathlib.Core.Option.{bind}
-use Rattle.poset.specs.Lists.{any, keep, member, count, upFrom, below, first, onlyIf}
+use Rattle.poset.specs.Lists.{exists, keep, member, occurrences, upFrom, below, first, onlyIf}
 use Rattle.poset.specs.Order.{arc, via, before, firstOnCycle, comparable, incomparable, isN, firstN, covers, pairsOf, reduction}
 use Rattle.poset.specs.Tree.{leaves, joined, reversed, across, precedes, groups, least, alternates, ahead, canonical}
 use Rattle.poset.specs.Decompose.{gather, components, placed, inSeries, sorted, parallelParts, seriesParts, forestOf, groupOf, decompose, treeOf}
 use Rattle.relation.specs.Arcs.{placeFrom, place, outside, loop}
 use Rattle.record.specs.Bits.{bits, packed, bytesOf, bitsOf}
 use Rattle.record.specs.Layout.{kindBit, moreChildren, treeBits, layout}
-use Rattle.record.specs.Decode.{readBits, kindOf, readForest, grouped, readTree, all, fills, spanning, decode}
+use Rattle.record.specs.Decode.{readBits, kindOf, readForest, grouped, readTree, every, fills, spanning, decode}
 use Rattle.sheet.specs.Text.{lineEnd, space}
 use Rattle.sheet.specs.Scan.{digitFits, withDigit, ending, endsNumber, ended, stopped, scanFrom, scan}
 use Rattle.analysis.specs.Answer.{answer}
@@ -91,9 +91,10 @@ pub cases
     : (map (λ (c : Input × List ℕ). shown (analysed (c .0))) table ≡ map (λ (c : Input × List ℕ). c .1) table)
     × (analysed (ofSheet sample) ≡ printed sample-record)
     × (analysed (ofRecord sample-record) ≡ printed [])
-unfolding table analysed shown printed flatMap bind any keep member count upFrom below first onlyIf arc via before firstOnCycle comparable incomparable isN
-    firstN covers pairsOf reduction leaves joined reversed across precedes groups least alternates ahead canonical gather components placed inSeries
+unfolding table analysed shown printed flatMap bind exists keep member occurrences upFrom below first onlyIf arc via before firstOnCycle
+    comparable incomparable isN firstN covers pairsOf reduction leaves joined reversed across precedes groups least alternates ahead canonical gather
+    components placed inSeries
     sorted parallelParts seriesParts forestOf groupOf decompose treeOf placeFrom place outside loop bits packed bytesOf bitsOf kindBit moreChildren treeBits
-    layout readBits kindOf readForest grouped readTree all fills spanning decode lineEnd space digitFits withDigit ending endsNumber ended stopped
+    layout readBits kindOf readForest grouped readTree every fills spanning decode lineEnd space digitFits withDigit ending endsNumber ended stopped
     scanFrom scan refuse accept arcsFit fitted decomposed ordered listed arcOutcome scanned sheetOutcome readBack recordOutcome
 cases = (refl, refl, refl)

@@ -8,13 +8,13 @@ use mathlib.Core.Logic.{⊎-elim}
 use native.Mathlib.Omega.{arith}
 use lib.Dec.{ltb}
 use lib.ListN.{length, drop, replicate}
-use Rattle.poset.specs.Areas.{overlay, padded}
+use Rattle.poset.specs.Areas.{overlay, padded, arcBytes}
 use Rattle.poset.specs.Order.{Rel, Four, Strict, firstN, reduction}
 use Rattle.poset.specs.Tree.{Tree}
 use Rattle.poset.specs.Decompose.{treeOf}
 use Rattle.poset.proofs.Laws.{clash, lt-true, false-unless, ltb-true, found-or-none, found-clash}
 use Rattle.poset.proofs.Theorems.{tree-of-sound, tree-has-no-n, first-n-none}
-use Rattle.relation.specs.Arcs.{arcBytes, foundFour}
+use Rattle.relation.specs.Arcs.{foundFour}
 use Rattle.relation.specs.declared.FoundFour.{FoundFour}
 use Rattle.relation.specs.declared.FoundFour.the-variants as four
 use Rattle.analysis.specs.Answer.{answer}

@@ -5,18 +5,17 @@ use mathlib.Core.List.{List, []}
 use mathlib.Core.Bool.{true, false, _&&_}
 use mathlib.Core.Option.{Option, none, some}
 use lib.ListN.{length, take}
-use Rattle.poset.specs.Areas.{overlay, padded}
-use Rattle.poset.specs.Lists.{aheadIn}
+use Rattle.poset.specs.Areas.{overlay, padded, arcBytes}
+use Rattle.poset.specs.Lists.{occurrences, aheadIn}
 use Rattle.poset.specs.Order.{Rel, Strict, covers, pairsOf}
 use Rattle.poset.specs.Tree.{Tree, leaves, reversed, groups, precedes}
 use Rattle.poset.proofs.Laws.{clash}
 use Rattle.relation.specs.Table.{holds, Inside}
-use Rattle.relation.specs.Arcs.{arcBytes}
 use Rattle.record.specs.Bits.{AllBelow}
 use Rattle.record.specs.Layout.{IsRecord}
 use Rattle.record.specs.Decode.{decode}
 use Rattle.record.proofs.Theorems.{layout-decode}
-use Rattle.reader.specs.Answer.{reading, Reads}
+use Rattle.reader.specs.Answer.{reading}
 use Rattle.reader.specs.declared.Reading.{Reading}
 use Rattle.reader.proofs.Realized.{order-ready, order-precedes, order-inside, order-strict}
 use Rattle.analysis.specs.Outcome.{Outcome, refuse, arcsFit, readBack, recordOutcome}
@@ -36,35 +35,36 @@ pub record Decoded (bytes : List ℕ) (x : Reading) : Type 0 where
   pub reverse-is : x .reverse ≡ padded (reversed tree)
 
 module _ (bytes : List ℕ) (x : Reading) where
-  pub decoded : AllBelow 256 bytes → Reads x (reading (decode bytes)) → x .ok ≡ true → Decoded bytes x
+  pub decoded : AllBelow 256 bytes → x ≡ reading (decode bytes) → x .ok ≡ true → Decoded bytes x
   decoded small reads ok = go (decode bytes) refl reads
     where
-      go : (o : Option (ℕ × Tree)) → decode bytes ≡ o → Reads x (reading o) → Decoded bytes x
-      go none e h = absurd (clash ok (h .ok))
+      go : (o : Option (ℕ × Tree)) → decode bytes ≡ o → x ≡ reading o → Decoded bytes x
+      go none e h = absurd (clash ok (ap (λ (r : Reading). r .ok) h))
       go (some (n, t)) e h =
-          let same : decode bytes ≡ some (x .count, t) = e ∙ ap (λ (k : ℕ). some (k, t)) (sym (h .count)) in
+          let same : decode bytes ≡ some (x .count, t) = e ∙ ap (λ (k : ℕ). some (k, t)) (sym (ap (λ (r : Reading). r .count) h)) in
           record {
             tree = t;
             decodes = same;
             spells = layout-decode bytes (x .count) t small same;
-            groups-are = h .groups;
-            forward-is = h .forward;
-            reverse-is = h .reverse;
+            groups-are = ap (λ (r : Reading). r .groups) h;
+            forward-is = ap (λ (r : Reading). r .forward) h;
+            reverse-is = ap (λ (r : Reading). r .reverse) h;
           }
 
-  pub gives-11 : (area : List ℕ) → Reads x (reading (decode bytes)) → x .ok ≡ false
+  pub gives-11 : (area : List ℕ) → x ≡ reading (decode bytes) → x .ok ≡ false
       → Gives (recordOutcome (length area) bytes) [] area (refusal verdict.NoRecord) [] area
   unfolding recordOutcome
   gives-11 area reads bad = go (decode bytes) refl reads
     where
-      go : (o : Option (ℕ × Tree)) → decode bytes ≡ o → Reads x (reading o)
+      go : (o : Option (ℕ × Tree)) → decode bytes ≡ o → x ≡ reading o
           → Gives (recordOutcome (length area) bytes) [] area (refusal verdict.NoRecord) [] area
       go none e h = gives-refusal verdict.NoRecord (recordOutcome (length area) bytes) [] area 11 0 0 0 0 (rw (recordOutcome, e)) refl
-      go (some y) e h = absurd (clash (h .ok) bad)
+      go (some y) e h = absurd (clash (ap (λ (r : Reading). r .ok) h) bad)
 
   module _ (d : Decoded bytes x) where
     pub ready : ((x .count ≤ 128) × (length (x .forward) ≡ 128) × (length (x .reverse) ≡ 128))
-        × (AllBelow 128 (take (x .count) (x .forward)) × AllBelow 128 (take (x .count) (x .reverse)))
+        × (AllBelow 128 (take (x .count) (x .forward)) × ((u : ℕ) → occurrences u (take (x .count) (x .forward)) ≤ 1)
+        × ((u : ℕ) → occurrences u (take (x .count) (x .reverse)) ≡ occurrences u (take (x .count) (x .forward))))
     ready = order-ready (x .count) (d .tree) (d .spells .spans) _ _ (d .forward-is) (d .reverse-is) (d .spells .most)
 
     module _ (after : List (List ℕ))

@@ -60,7 +60,7 @@ pub place-sheet
     : (rooms : Rooms) (s : List ℕ) (p : ℕ) → sheetOutcome rooms s .verdict .number ≡ 2 → sheetOutcome rooms s .verdict .first ≡ p
     → Continues (take p s)
     × (((p < length s) × (Continues (take (p + 1) s) → ⊥)) ⊎ ((p ≡ length s) × ((n : ℕ) (arcs : List Arc) → LineForm s n arcs → ⊥)))
-place-sheet rooms s p two first = scan-place s p (rw first at (Answers.sheet-broken rooms s (sheet-fate rooms s) two))
+place-sheet rooms s p two first = let b = Answers.sheet-broken rooms s (sheet-fate rooms s) two first in scan-place s p (b .0) (b .1)
 
 pub place-pairs
     : (rooms : Rooms) (n : ℕ) (list : List ℕ) → pairOutcome rooms n list .verdict .number ≡ 2 → pairOutcome rooms n list .verdict .first ≡ 0

@@ -26,7 +26,7 @@ use Rattle.analysis.proofs.Fates.{ltb-is, Fate, fate}
 
 pub data SheetFate (rooms : Rooms) (s : List ℕ) : Outcome → Type 0 where
   oversize : 32772 < length s → SheetFate rooms s (refuse 1 0 0 0 0)
-  misformed : {p : ℕ} → (32772 < length s → ⊥) → scan s ≡ broken p → SheetFate rooms s (refuse 2 p 0 0 0)
+  misformed : {p : ℕ} {ahead : List Arc} → (32772 < length s → ⊥) → scan s ≡ broken p ahead → SheetFate rooms s (refuse 2 p 0 0 0)
   formed : {n : ℕ} {arcs : List Arc} {o : Outcome} → (32772 < length s → ⊥) → LineForm s n arcs → Fate rooms n arcs o → SheetFate rooms s o
 
 pub sheet-fate : (rooms : Rooms) (s : List ℕ) → SheetFate rooms s (sheetOutcome rooms s)
@@ -34,7 +34,7 @@ unfolding sheetOutcome scanned
 sheet-fate rooms s = by-test (SheetFate rooms s) (ltb 32772 (length s)) (ltb-is _ _) oversize λ l. read l (scan s) refl
   where
     read : (32772 < length s → ⊥) → (r : Read) → scan s ≡ r → SheetFate rooms s (scanned rooms r)
-    read l (broken p) e = misformed l e
+    read l (broken p ahead) e = misformed l e
     read l (sheet n arcs) e = formed l (scan-sheet s n arcs .0 e) (fate rooms n arcs)
 
 -- a sheet in the line form is analysed as its count and arcs

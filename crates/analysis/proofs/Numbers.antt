@@ -6,7 +6,7 @@ use mathlib.Core.Bool.{true}
 use mathlib.Core.Logic.{_⊎_, inl, inr, ⊎-elim, _≢_}
 use native.Mathlib.Omega.{arith}
 use lib.ListN.{length}
-use Rattle.poset.specs.Lists.{any, member}
+use Rattle.poset.specs.Lists.{exists, member}
 use Rattle.poset.specs.Order.{Arc, before}
 use Rattle.poset.specs.Tree.{Tree, Means, canonical}
 use Rattle.poset.proofs.Laws.{clash}
@@ -101,7 +101,7 @@ module _ (rooms : Rooms) (n : ℕ) (arcs : List Arc) where
   fate-named (done c m p k j) = names-none _ (inl (omega arith))
 
   pub fate-unnamed : {o : Outcome} → Fate rooms n arcs o → Unnamed (o .verdict)
-  unfolding refuse accept member any
+  unfolding refuse accept member exists
   fate-unnamed (miscounted h) = (λ _. refl, λ _. (refl, refl, refl))
   fate-unnamed (many c l) = (λ _. refl, λ _. (refl, refl, refl))
   fate-unnamed (outlying c f) = (λ e. absurd (clash refl e), λ _. (refl, refl, refl))

@@ -5,10 +5,11 @@ use mathlib.Core.List.{List}
 use mathlib.Core.Bool.{Bool, true, false}
 use native.Mathlib.Omega.{arith}
 use lib.ListN.{length, take}
+use Rattle.poset.specs.Areas.{arcBytes}
 use Rattle.poset.specs.Order.{Arc}
 use Rattle.poset.proofs.Laws.{clash}
 use Rattle.sheet.specs.Scan.{Read, sheet, broken}
-use Rattle.sheet.specs.Listing.{numbers, listing, resultOf, Answers}
+use Rattle.sheet.specs.Listing.{listing, resultOf, arcsOf, Answers}
 use Rattle.sheet.specs.declared.SheetRead.{SheetRead}
 use Rattle.sheet.specs.declared.SheetRead.the-variants.{Sheet, Broken}
 use Rattle.sheet.proofs.Listing.{listing-length, listing-front}
@@ -30,11 +31,11 @@ pub record ArcsRead (x : Read) (n count : ℕ) (list : List ℕ) : Type 0 where
   pub arcs : List Arc
   pub read-is : x ≡ sheet n arcs
   pub size : length arcs ≡ count
-  pub front : count ≤ 4096 → take (2 * count) list ≡ numbers arcs
+  pub front : count ≤ 4096 → take (2 * count) list ≡ arcBytes arcs
 
 pub arcs-read : (x : Read) (held list : List ℕ) (r : SheetRead) (n count : ℕ) → Answers x held r list → r ≡ Sheet n count → length held ≡ 8192
     → ArcsRead x n count list
-unfolding resultOf
+unfolding resultOf arcsOf
 arcs-read (sheet m arcs) held list r n count a e size =
     let same = sym e ∙ a .result in
     let long : count ≡ length arcs = ap arcCount same in
@@ -45,13 +46,12 @@ arcs-read (sheet m arcs) held list r n count a e size =
       front =
           λ few. ap (λ k. take (2 * k) list) long ∙ ap (take (2 * length arcs)) (a .listed) ∙ listing-front arcs held (omega (arith, long, size));
     }
-arcs-read (broken p) held list r n count a e size = absurd (clash (ap isSheet e) (ap isSheet (a .result)))
+arcs-read (broken p arcs) held list r n count a e size = absurd (clash (ap isSheet e) (ap isSheet (a .result)))
 
-pub broken-read : (x : Read) (held list : List ℕ) (r : SheetRead) (p : ℕ) → Answers x held r list → r ≡ Broken p → x ≡ broken p
-unfolding resultOf
+pub broken-read : (x : Read) (held list : List ℕ) (r : SheetRead) (p : ℕ) → Answers x held r list → r ≡ Broken p → x ≡ broken p (arcsOf x)
+unfolding resultOf arcsOf
 broken-read (sheet m arcs) held list r p a e = absurd (clash (ap isSheet (a .result)) (ap isSheet e))
-broken-read (broken q) held list r p a e = ap broken (ap jobs (sym (a .result) ∙ e))
+broken-read (broken q arcs) held list r p a e = ap (λ k. broken k arcs) (ap jobs (sym (a .result) ∙ e))
 
 pub list-length : (x : Read) (held list : List ℕ) (r : SheetRead) → Answers x held r list → length list ≡ length held
-list-length (sheet m arcs) held list r a = ap length (a .listed) ∙ listing-length arcs held
-list-length (broken q) held list r a = a .listed
+list-length x held list r a = ap length (a .listed) ∙ listing-length (arcsOf x) held

@@ -1,18 +1,18 @@
 -- The refusals 1 to 6, one test after another.
 use Prim.Native.Nat.{ℕ, zero, suc, _+_, _*_, _/_, _%_, _≤_, _<_}
 use mathlib.Core.Path.{_≡_, refl, sym, ap, _∙_}
-use mathlib.Core.List.{List, [], _∷_}
+use mathlib.Core.List.{List, [], _∷_, flatMap}
 use mathlib.Core.Bool.{Bool, true, false, _||_}
 use mathlib.Core.Option.{Option, none, some}
 use native.Mathlib.Decide.{decLt}
 use native.Mathlib.Omega.{arith}
 use lib.Dec.{ltb, eqb}
 use lib.ListN.{length}
+use Rattle.poset.specs.Areas.{arcBytes}
 use Rattle.poset.specs.Order.{Arc, before}
 use Rattle.poset.proofs.Laws.{lt-true, false-unless, ltb-true, eqb-true, eqb-same}
 use Rattle.relation.specs.Arcs.{pairs, place, outside, loop}
 use Rattle.sheet.specs.Scan.{Read, sheet, broken, scan}
-use Rattle.sheet.specs.Listing.{numbers}
 use Rattle.analysis.specs.Outcome.{Rooms, Outcome, refuse, ordered, listed, arcOutcome, scanned, sheetOutcome, pairOutcome}
 
 module _ (rs : Rooms) (n : ℕ) (arcs : List Arc) where
@@ -91,10 +91,10 @@ pairs-length [] = refl
 pairs-length (u ∷ []) = refl
 pairs-length (u ∷ v ∷ list) = omega (arith, pairs-length list)
 
-pub pairs-numbers : (arcs : List Arc) → pairs (numbers arcs) ≡ arcs
-unfolding pairs numbers
-pairs-numbers [] = refl
-pairs-numbers (a ∷ arcs) = ap (λ l. a ∷ l) (pairs-numbers arcs)
+pub pairs-bytes : (arcs : List Arc) → pairs (arcBytes arcs) ≡ arcs
+unfolding pairs arcBytes flatMap
+pairs-bytes [] = refl
+pairs-bytes (a ∷ arcs) = ap (λ l. a ∷ l) (pairs-bytes arcs)
 
 module _ (rs : Rooms) (n : ℕ) (list : List ℕ) where
   abbrev after2 : Bool → Outcome
@@ -136,7 +136,7 @@ module _ (rs : Rooms) (s : List ℕ) where
   sheet-short : length s ≤ 32772 → sheetOutcome rs s ≡ scanned rs (scan s)
   sheet-short l = sheet-is ∙ ap after1 (false-unless (ltb 32772 (length s)) (λ h. omega (arith, ltb-true 32772 (length s) h)))
 
-  pub sheet-broken : (p : ℕ) → length s ≤ 32772 → scan s ≡ broken p → sheetOutcome rs s ≡ refuse 2 p 0 0 0
+  pub sheet-broken : (p : ℕ) {ahead : List Arc} → length s ≤ 32772 → scan s ≡ broken p ahead → sheetOutcome rs s ≡ refuse 2 p 0 0 0
   unfolding scanned
   sheet-broken p l e = sheet-short l ∙ ap (scanned rs) e
 

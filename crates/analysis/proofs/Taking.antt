@@ -7,14 +7,13 @@ use mathlib.Core.Option.{some}
 use native.Mathlib.Omega.{arith}
 use lib.Dec.{ltb}
 use lib.ListN.{length, take}
-use Rattle.poset.specs.Areas.{overlay, padded}
+use Rattle.poset.specs.Areas.{overlay, padded, arcBytes}
 use Rattle.poset.specs.Order.{Rel, Strict, covers, pairsOf, reduction}
 use Rattle.poset.specs.Tree.{Tree, leaves, reversed, groups}
 use Rattle.poset.specs.Decompose.{treeOf}
 use Rattle.poset.proofs.Laws.{lt-true, false-unless, ltb-true}
 use Rattle.poset.proofs.Theorems.{reduction-fits}
 use Rattle.relation.specs.Table.{holds}
-use Rattle.relation.specs.Arcs.{arcBytes}
 use Rattle.record.specs.Layout.{layout}
 use Rattle.writer.specs.Written.{written}
 use Rattle.writer.specs.declared.writing.Written.{Written}

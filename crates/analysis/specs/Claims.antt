@@ -6,7 +6,7 @@ use mathlib.Core.Bool.{true, false, cond}
 use mathlib.Core.Logic.{_⊎_, _↔_}
 use lib.Dec.{ltb}
 use lib.ListN.{length}
-use Rattle.poset.specs.Lists.{member, count, aheadIn}
+use Rattle.poset.specs.Lists.{member, occurrences, aheadIn}
 use Rattle.poset.specs.Order.{Arc, Run, before, Four, NAt, SmallerFour, reduction, Ascending}
 use Rattle.poset.specs.Tree.{Tree, leaves, reversed, groups, precedes, Means, canonical}
 use Rattle.record.specs.Layout.{layout, IsRecord}
@@ -62,8 +62,8 @@ pub record Yield (n : ℕ) (arcs : List Arc) (o : Outcome) : Type 0 where
   pub reduced : (u v : ℕ) → List·Memᴰ (u, v) (o .arcs) ↔ (Run arcs u v × ((w : ℕ) → Run arcs u w → Run arcs w v → ⊥))
   pub forward-is : o .forward ≡ leaves tree
   pub reverse-is : o .reverse ≡ reversed tree
-  pub forward-once : (u : ℕ) → count u (o .forward) ≡ cond (ltb u n) 1 0
-  pub reverse-once : (u : ℕ) → count u (o .reverse) ≡ cond (ltb u n) 1 0
+  pub forward-once : (u : ℕ) → occurrences u (o .forward) ≡ cond (ltb u n) 1 0
+  pub reverse-once : (u : ℕ) → occurrences u (o .reverse) ≡ cond (ltb u n) 1 0
   pub realized : (u v : ℕ) → u < n → v < n → Run arcs u v ↔ ((aheadIn u v (o .forward) ≡ true) × (aheadIn u v (o .reverse) ≡ true))
 
 -- what bytes that are a record yield

@@ -86,7 +86,7 @@ arcOutcome rooms n arcs =
 
 -- 2: the sheet breaks the line form
 unfoldable pub scanned : Rooms → Read → Outcome
-scanned rooms (broken at) = refuse 2 at 0 0 0
+scanned rooms (broken at arcs) = refuse 2 at 0 0 0
 scanned rooms (sheet n arcs) = arcOutcome rooms n arcs
 
 -- 1: the sheet is longer than 32,772 bytes. The analysis of a sheet.

@@ -5,8 +5,7 @@ use mathlib.Core.List.{List, []}
 use mathlib.Core.Option.{Option, none, some}
 use lib.ListN.{length}
 use Rattle.poset.specs.Order.{Four}
-use Rattle.poset.specs.Areas.{overlay, padded}
-use Rattle.relation.specs.Arcs.{arcBytes}
+use Rattle.poset.specs.Areas.{overlay, padded, arcBytes}
 use Rattle.analysis.specs.Answer.{Answer, answer}
 use Rattle.analysis.specs.Outcome.{Rooms, Outcome}
 use Rattle.analysis.specs.declared.Verdict.{Verdict}

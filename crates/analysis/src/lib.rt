@@ -46,8 +46,8 @@ fn refused(verdict: Verdict) -> Analysis
     }
 }
 
-// How many numbers of the list are arcs: all of them, or none if there are too many.
-fn listed(count: usize) -> usize
+// How many numbers of the list are looked at: two for each arc, or none if there are too many arcs.
+fn looked_at(count: usize) -> usize
     ensures { λ r. ⌜ (r ≤ 8192) × (count ≤ 4096 → r ≡ 2 * count) ⌝ }
 {
     if 4096 < count {
@@ -68,7 +68,7 @@ pub fn analyse_sheet(sheet: &[u8], bytes: &mut [u8], area: &mut [u8]) -> Analysi
     let read = sheet::read_sheet(sheet, &mut list);
     match read {
         SheetRead::Sheet(n, count) => {
-            limits::of_count(n, count, &list[..listed(count)], bytes, area)
+            limits::of_count(n, count, &list[..looked_at(count)], bytes, area)
         }
         SheetRead::Broken(place) => refused(Verdict::Broken(place)),
     }

@@ -33,17 +33,17 @@ fn crossed(after: &[[u64; 2]; 128], under: &[[u64; 2]; 128], n: usize) -> Analys
 }
 
 // A strict order: its record and its reduced orders, each written once both are known to fit.
-fn take_apart(after: [[u64; 2]; 128], n: usize, bytes: &mut [u8], area: &mut [u8]) -> Analysis
+fn take_apart(after: &[[u64; 2]; 128], n: usize, bytes: &mut [u8], area: &mut [u8]) -> Analysis
     requires { ⌜ (0 < n) × (n ≤ 128) ⌝ }
-    requires { ⌜ Strict n (holds after) ⌝ }
-    requires { ⌜ Inside n after ⌝ }
-    ensures { λ r. ⌜ Gives (decomposed (rooms (now (bytes .entry)) (now (area .entry))) n (holds after))
+    requires { ⌜ Strict n (holds (now after)) ⌝ }
+    requires { ⌜ Inside n (now after) ⌝ }
+    ensures { λ r. ⌜ Gives (decomposed (rooms (now (bytes .entry)) (now (area .entry))) n (holds (now (after .entry))))
         (now (bytes .entry)) (now (area .entry)) r (now (bytes .exit)) (now (area .exit)) ⌝ }
 {
-    let under = order::transposed(after, n);
-    let written = writing::write_record(&after, &under, n);
+    let under = order::transposed(*after, n);
+    let written = writing::write_record(after, &under, n);
     if !written.ok {
-        return crossed(&after, &under, n);
+        return crossed(after, &under, n);
     }
     let reduced = reduction::reduced(after, n);
     let count = reduction::pair_count(&reduced, n);
@@ -76,6 +76,6 @@ pub fn of_arcs(list: &[u16], n: usize, bytes: &mut [u8], area: &mut [u8]) -> Ana
     let circle = order::first_on_cycle(&after, n);
     match circle {
         Found::At(u) => refused(Verdict::Cycle(u)),
-        Found::Nothing => take_apart(after, n, bytes, area),
+        Found::Nothing => take_apart(&after, n, bytes, area),
     }
 }

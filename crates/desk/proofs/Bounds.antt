@@ -20,7 +20,7 @@ use Rattle.analysis.proofs.Fates.{run-below, all-within, clear-count, clear-str
 use Rattle.analysis.proofs.Fates.{Fate, miscounted, many, outlying, looping, cyclic, crossed, long, wide, done}
 use Rattle.analysis.proofs.Inputs.{SheetFate, oversize, misformed, formed, sheet-fate}
 use Rattle.analysis.proofs.Inputs.{PairFate, odd, even, pair-fate, RecordFate, misspelt, broad, read, record-fate}
-use Rattle.desk.specs.Packed.{Narrow}
+use Rattle.desk.proofs.Packing.{Narrow}
 
 -- a refusal that names one place at most
 one-place : (k p : ℕ) → k < 256 → p < 65536 → Narrow (refuse k p 0 0 0 .verdict)
@@ -82,7 +82,7 @@ module _ (rooms : Rooms) (n : ℕ) (arcs : List Arc) where
 sheet-told : (rooms : Rooms) (s : List ℕ) {o : Outcome} → SheetFate rooms s o → Narrow (o .verdict)
 sheet-told rooms s (oversize l) = one-place 1 0 (omega arith) (omega arith)
 sheet-told rooms s (misformed {p = p} l e) =
-    one-place 2 p (omega arith) (⊎-elim (λ h. omega (arith, l, h .0)) (λ h. omega (arith, l, h .0)) (scan-place s p e .1))
+    one-place 2 p (omega arith) (⊎-elim (λ h. omega (arith, l, h .0)) (λ h. omega (arith, l, h .0)) (scan-place s p _ e .1))
 sheet-told rooms s (formed {n = n} {arcs = arcs} l f h) = fate-narrow rooms n arcs h
 
 pub sheet-narrow : (rooms : Rooms) (s : List ℕ) → Narrow (sheetOutcome rooms s .verdict)

@@ -2,8 +2,7 @@
 use Prim.Native.Nat.{ℕ}
 use mathlib.Core.Path.{_≡_}
 use mathlib.Core.List.{List}
-use Rattle.poset.specs.Areas.{overlay}
-use Rattle.relation.specs.Arcs.{arcBytes}
+use Rattle.poset.specs.Areas.{overlay, arcBytes}
 use Rattle.analysis.specs.Outcome.{Outcome}
 use Rattle.desk.specs.Packed.{packed}
 

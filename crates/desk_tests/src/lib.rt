@@ -6,7 +6,7 @@ ghost use mathlib.Core.List.{[]};
 ghost use lib.ListN.{length};
 ghost use Rattle.analysis.specs.Outcome.{sheetOutcome, pairOutcome, recordOutcome};
 ghost use Rattle.analysis.specs.Result.{answerOf, rooms};
-ghost use Rattle.desk.specs.Packed.{packed, Narrow};
+ghost use Rattle.desk.specs.Packed.{packed, cut};
 ghost use Rattle.desk_tests.specs.Shown.{entered, Shown};
 
 // As many entries of a sequence as the area has room for.
@@ -24,8 +24,7 @@ fn enter(entries: [u8; 128], area: &mut [u8])
 
 // The sequences into two areas, and the answer as one number.
 fn shown(found: Analysis, forward: &mut [u8], reverse: &mut [u8]) -> u64
-    requires { ⌜ Narrow (answerOf (found .verdict)) ⌝ }
-    ensures { λ r. ⌜ (r ≡ packed (answerOf (found .verdict)))
+    ensures { λ r. ⌜ (r ≡ packed (cut (answerOf (found .verdict))))
         × (now (forward .exit) ≡ entered (found .forward) (now (forward .entry)))
         × (now (reverse .exit) ≡ entered (found .reverse) (now (reverse .entry))) ⌝ }
 {

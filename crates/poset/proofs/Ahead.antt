@@ -5,7 +5,7 @@ use mathlib.Core.List.{List, [], _∷_, _++_, List·Memᴰ, List·Memᴰ·head, 
 use mathlib.Core.Bool.{true, false, _||_, or-false}
 use mathlib.Core.Logic.{⊎-elim}
 use lib.Dec.{eqb}
-use Rattle.poset.specs.Lists.{any, member, aheadIn}
+use Rattle.poset.specs.Lists.{exists, member, aheadIn}
 use Rattle.poset.proofs.Laws.{decided, clash, false-unless, or-right, eqb-differ, any-not, any-append, member-mem, mem-member}
 
 module _ (u v : ℕ) where
@@ -28,7 +28,7 @@ module _ (u v : ℕ) where
 
   -- u in the first of two lists
   pub ahead-in : (xs ys : List ℕ) → member u xs ≡ true → aheadIn u v (xs ++ ys) ≡ (aheadIn u v xs || member v ys)
-  unfolding any member
+  unfolding exists member
   ahead-in [] ys h = absurd (clash h refl)
   ahead-in (x ∷ xs) ys h =
       ⊎-elim

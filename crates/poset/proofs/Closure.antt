@@ -8,7 +8,7 @@ use mathlib.Core.Option.{none}
 use mathlib.Core.Logic.{_⊎_, inl, inr, ⊎-elim, _↔_}
 use native.Mathlib.Omega.{arith}
 use lib.Dec.{eqb}
-use Rattle.poset.specs.Lists.{any}
+use Rattle.poset.specs.Lists.{exists}
 use Rattle.poset.specs.Order.{Rel, Arc, Run, one, then, Within, Strict, arc, via, before, firstOnCycle}
 use Rattle.poset.proofs.Laws.{and-left, and-right, and-intro, or-cases, or-left, or-right, eqb-true, eqb-same, any-hit, any-found}
 use Rattle.poset.proofs.Searches.{first-on-cycle-none}
@@ -93,7 +93,7 @@ arc-mem arcs u v = (found, λ m. any-hit p m (and-intro _ _ (eqb-same u) (eqb-sa
     p : Arc → Bool
     p a = eqb (a .0) u && eqb (a .1) v
 
-    found : any p arcs ≡ true → List·Memᴰ (u, v) arcs
+    found : exists p arcs ≡ true → List·Memᴰ (u, v) arcs
     found h =
         let f = any-found p arcs h in
         let e = eqb (f .0 .0) u in

@@ -6,7 +6,7 @@ use mathlib.Core.List.{Memᴰ·append-left, Memᴰ·append-right, List·Memᴰ·
 use mathlib.Core.Bool.{Bool, true, false}
 use mathlib.Core.Logic.{_⊎_, inl, inr, ⊎-elim}
 use native.Mathlib.Omega.{arith}
-use Rattle.poset.specs.Lists.{any}
+use Rattle.poset.specs.Lists.{exists}
 use Rattle.poset.specs.Order.{Rel}
 use Rattle.poset.specs.Tree.{Kind}
 use Rattle.poset.specs.Decompose.{Block, gather, components}
@@ -74,12 +74,12 @@ record Gathered (k : Kind) (r : Rel) (x : ℕ) (bs : List Block) (g : Block × L
   all : (u : ℕ) → OfBlocks bs u → Of (g .0) u ⊎ OfBlocks (g .1) u
 
 module _ (k : Kind) (r : Rel) (x : ℕ) where
-  gather-near : (b : Block) (bs : List Block) → any (near k r x) b ≡ true
+  gather-near : (b : Block) (bs : List Block) → exists (near k r x) b ≡ true
       → gather (near k r) x (b ∷ bs) ≡ (gather (near k r) x bs .0 ++ b, gather (near k r) x bs .1)
   unfolding gather
   gather-near b bs e = rw (e, gather)
 
-  gather-far : (b : Block) (bs : List Block) → any (near k r x) b ≡ false
+  gather-far : (b : Block) (bs : List Block) → exists (near k r x) b ≡ false
       → gather (near k r) x (b ∷ bs) ≡ (gather (near k r) x bs .0, b ∷ gather (near k r) x bs .1)
   unfolding gather
   gather-far b bs e = rw (e, gather)
@@ -97,7 +97,7 @@ module _ (k : Kind) (r : Rel) (x : ℕ) where
 
   module _ (b : Block) (bs : List Block) (part : Part k r b bs) (fresh : (v : ℕ) → Of b v ⊎ OfBlocks bs v → x < v)
       (g : Block × List Block) (ih : Gathered k r x bs g) where
-    taken : any (near k r x) b ≡ true → Gathered k r x (b ∷ bs) (g .0 ++ b, g .1)
+    taken : exists (near k r x) b ≡ true → Gathered k r x (b ∷ bs) (g .0 ++ b, g .1)
     taken e =
         let y = any-found (near k r x) b e in
         record {
@@ -114,7 +114,7 @@ module _ (k : Kind) (r : Rel) (x : ℕ) where
         deeper u (inl e) = inl e
         deeper u (inr m) = inr (inr m)
 
-    passed : any (near k r x) b ≡ false → Gathered k r x (b ∷ bs) (g .0, b ∷ g .1)
+    passed : exists (near k r x) b ≡ false → Gathered k r x (b ∷ bs) (g .0, b ∷ g .1)
     passed e =
         record {
           linked = ih .linked;
@@ -149,7 +149,7 @@ module _ (k : Kind) (r : Rel) (x : ℕ) where
       ⊎-elim
       (λ e. rw (gather-near b bs e) (taken b bs (ps .0) fresh (gather (near k r) x bs) ih e))
       (λ e. rw (gather-far b bs e) (passed b bs (ps .0) fresh (gather (near k r) x bs) ih e))
-      (decided (any (near k r x) b))
+      (decided (exists (near k r x) b))
 
 -- the components of a list are parts, and have the jobs of the list
 

@@ -1,8 +1,8 @@
 -- Laws of tests and of the small functions on lists.
 use Prim.Native.Nat.{ℕ, zero, suc, _+_, _≤_, _<_, min}
-use mathlib.Core.Path.{_≡_, refl, sym, ap, subst, _∙_}
+use mathlib.Core.Path.{_≡_, refl, sym, ap, ap₂, subst, _∙_}
 use mathlib.Core.List.{List, [], _∷_, _++_, flatMap, List·Memᴰ, List·Memᴰ·head, List·Memᴰ·tail, List·Memᴰ·cases-cons, List·Memᴰ·not-nil, Memᴰ·cast}
-use mathlib.Core.List.{Memᴰ·append-left, Memᴰ·append-right, List·Memᴰ·append-cases}
+use mathlib.Core.List.{append-assoc, Memᴰ·append-left, Memᴰ·append-right, List·Memᴰ·append-cases}
 use mathlib.Core.Bool.{Bool, true, false, _&&_, _||_, not, true≢false}
 use mathlib.Core.Option.{Option, none, some, Option·some-injective, Option·some-ne-none}
 use mathlib.Core.Logic.{_⊎_, inl, inr, ⊎-elim, _↔_}
@@ -10,7 +10,7 @@ use native.Mathlib.Nat.{eq-or-lt-of-le}
 use native.Mathlib.Decide.{decLe}
 use native.Mathlib.Omega.{arith}
 use lib.Dec.{eqb, ltb, T, eqb→eq, eqb-refl, lt→ltb, ltb→lt}
-use Rattle.poset.specs.Lists.{any, keep, member, count, upFrom, below, first, onlyIf}
+use Rattle.poset.specs.Lists.{exists, keep, member, occurrences, upFrom, below, first, onlyIf}
 
 -- tests
 
@@ -95,13 +95,13 @@ min-either a b = elim (decLe a b) [ yes h ↦ inl (omega arith) | no h ↦ inr (
 -- lists: what each function does with one element more
 
 module _ {ℓ} {A : Type ℓ} (p : A → Bool) (x : A) (xs : List A) where
-  pub any-yes : p x ≡ true → any p (x ∷ xs) ≡ true
-  unfolding any
-  any-yes e = rw (e, any)
+  pub any-yes : p x ≡ true → exists p (x ∷ xs) ≡ true
+  unfolding exists
+  any-yes e = rw (e, exists)
 
-  pub any-not : p x ≡ false → any p (x ∷ xs) ≡ any p xs
-  unfolding any
-  any-not e = rw (e, any)
+  pub any-not : p x ≡ false → exists p (x ∷ xs) ≡ exists p xs
+  unfolding exists
+  any-not e = rw (e, exists)
 
   pub keep-yes : p x ≡ true → keep p (x ∷ xs) ≡ x ∷ keep p xs
   unfolding keep
@@ -112,13 +112,13 @@ module _ {ℓ} {A : Type ℓ} (p : A → Bool) (x : A) (xs : List A) where
   keep-not e = rw (e, keep)
 
 module _ (x y : ℕ) (ys : List ℕ) where
-  pub count-same : x ≡ y → count x (y ∷ ys) ≡ suc (count x ys)
-  unfolding count
-  count-same e = rw (ap (eqb x) (sym e) ∙ eqb-same x, count)
+  pub count-same : x ≡ y → occurrences x (y ∷ ys) ≡ suc (occurrences x ys)
+  unfolding occurrences
+  count-same e = rw (ap (eqb x) (sym e) ∙ eqb-same x, occurrences)
 
-  pub count-other : (x ≡ y → ⊥) → count x (y ∷ ys) ≡ count x ys
-  unfolding count
-  count-other e = rw (eqb-differ x y e, count)
+  pub count-other : (x ≡ y → ⊥) → occurrences x (y ∷ ys) ≡ occurrences x ys
+  unfolding occurrences
+  count-other e = rw (eqb-differ x y e, occurrences)
 
 module _ {ℓ κ} {A : Type ℓ} {B : Type κ} (f : A → Option B) (x : A) (xs : List A) where
   pub first-here : {b : B} → f x ≡ some b → first f (x ∷ xs) ≡ some b
@@ -132,13 +132,13 @@ module _ {ℓ κ} {A : Type ℓ} {B : Type κ} (f : A → Option B) (x : A) (xs 
 -- membership
 
 module _ {ℓ} {A : Type ℓ} (p : A → Bool) where
-  pub any-hit : {x : A} {xs : List A} → List·Memᴰ x xs → p x ≡ true → any p xs ≡ true
+  pub any-hit : {x : A} {xs : List A} → List·Memᴰ x xs → p x ≡ true → exists p xs ≡ true
   any-hit (List·Memᴰ·head {x = y} {xs = ys} e) h = any-yes p y ys (ap p (sym e) ∙ h)
   any-hit (List·Memᴰ·tail {x = y} {xs = ys} m) h =
       ⊎-elim (λ e. any-yes p y ys e) (λ e. any-not p y ys e ∙ any-hit m h) (decided (p y))
 
-  pub any-found : (xs : List A) → any p xs ≡ true → (x : A) × List·Memᴰ x xs × (p x ≡ true)
-  unfolding any
+  pub any-found : (xs : List A) → exists p xs ≡ true → (x : A) × List·Memᴰ x xs × (p x ≡ true)
+  unfolding exists
   any-found [] h = absurd (clash h refl)
   any-found (y ∷ ys) h =
       ⊎-elim (λ e. (y, List·Memᴰ·head refl, e)) (λ e. later (any-found ys (sym (any-not p y ys e) ∙ h))) (decided (p y))
@@ -146,10 +146,10 @@ module _ {ℓ} {A : Type ℓ} (p : A → Bool) where
       later : (x : A) × List·Memᴰ x ys × (p x ≡ true) → (x : A) × List·Memᴰ x (y ∷ ys) × (p x ≡ true)
       later f = (f .0, List·Memᴰ·tail (f .1), f .2)
 
-  pub any-miss : (xs : List A) → any p xs ≡ false → {x : A} → List·Memᴰ x xs → p x ≡ false
+  pub any-miss : (xs : List A) → exists p xs ≡ false → {x : A} → List·Memᴰ x xs → p x ≡ false
   any-miss xs h {x} m = false-unless (p x) (λ e. clash (any-hit m e) h)
 
-  pub any-none : (xs : List A) → ((x : A) → List·Memᴰ x xs → p x ≡ false) → any p xs ≡ false
+  pub any-none : (xs : List A) → ((x : A) → List·Memᴰ x xs → p x ≡ false) → exists p xs ≡ false
   any-none xs h = false-unless _ (λ e. let f = any-found xs e in clash (f .2) (h (f .0) (f .1)))
 
   pub keep-mem : {x : A} {xs : List A} → List·Memᴰ x xs → p x ≡ true → List·Memᴰ x (keep p xs)
@@ -184,14 +184,14 @@ pub mem-member : {u : ℕ} {xs : List ℕ} → List·Memᴰ u xs → member u xs
 unfolding member
 mem-member {u} m = any-hit (eqb u) m (eqb-same u)
 
-pub count-zero : (u : ℕ) (xs : List ℕ) → (List·Memᴰ u xs → ⊥) → count u xs ≡ 0
-unfolding count
+pub count-zero : (u : ℕ) (xs : List ℕ) → (List·Memᴰ u xs → ⊥) → occurrences u xs ≡ 0
+unfolding occurrences
 count-zero u [] h = refl
 count-zero u (x ∷ xs) h =
     count-other u x xs (λ e. h (List·Memᴰ·head e)) ∙ count-zero u xs (λ m. h (List·Memᴰ·tail m))
 
-pub count-mem : (u : ℕ) (xs : List ℕ) → 0 < count u xs → List·Memᴰ u xs
-unfolding count
+pub count-mem : (u : ℕ) (xs : List ℕ) → 0 < occurrences u xs → List·Memᴰ u xs
+unfolding occurrences
 count-mem u [] h = absurd (omega arith)
 count-mem u (x ∷ xs) h =
     ⊎-elim
@@ -199,7 +199,7 @@ count-mem u (x ∷ xs) h =
     (λ e. List·Memᴰ·tail (count-mem u xs (rw (count-other u x xs (λ q. clash (ap (eqb u) (sym q) ∙ eqb-same u) e)) at h)))
     (decided (eqb u x))
 
-pub mem-count : {u : ℕ} {xs : List ℕ} → List·Memᴰ u xs → 0 < count u xs
+pub mem-count : {u : ℕ} {xs : List ℕ} → List·Memᴰ u xs → 0 < occurrences u xs
 mem-count {u} (List·Memᴰ·head {x = x} {xs = xs} e) = omega (arith, count-same u x xs e)
 mem-count {u} (List·Memᴰ·tail {x = x} {xs = xs} m) =
     ⊎-elim
@@ -207,8 +207,8 @@ mem-count {u} (List·Memᴰ·tail {x = x} {xs = xs} m) =
     (λ e. rw (count-other u x xs (λ q. clash (ap (eqb u) (sym q) ∙ eqb-same u) e)) (mem-count m))
     (decided (eqb u x))
 
-pub count-append : (u : ℕ) (xs ys : List ℕ) → count u (xs ++ ys) ≡ count u xs + count u ys
-unfolding count
+pub count-append : (u : ℕ) (xs ys : List ℕ) → occurrences u (xs ++ ys) ≡ occurrences u xs + occurrences u ys
+unfolding occurrences
 count-append u [] ys = omega arith
 count-append u (x ∷ xs) ys =
     ⊎-elim
@@ -252,6 +252,18 @@ pub same-test : (a b : Bool) → (a ≡ true → b ≡ true) → (b ≡ true →
 same-test true b f g = sym (f refl)
 same-test false b f g = sym (false-unless b (λ e. clash (g e) refl))
 
+-- two tests that agree on a list
+pub keep-agree {ℓ} : {A : Type ℓ} (p q : A → Bool) (xs : List A) → ((x : A) → List·Memᴰ x xs → p x ≡ q x) → keep p xs ≡ keep q xs
+unfolding keep
+keep-agree p q [] h = refl
+keep-agree p q (x ∷ xs) h =
+    let ih = keep-agree p q xs (λ y m. h y (List·Memᴰ·tail m)) in
+    let e = h x (List·Memᴰ·head refl) in
+    ⊎-elim
+    (λ (d : q x ≡ true). keep-yes p x xs (e ∙ d) ∙ ap (_∷_ x) ih ∙ sym (keep-yes q x xs d))
+    (λ (d : q x ≡ false). keep-not p x xs (e ∙ d) ∙ ih ∙ sym (keep-not q x xs d))
+    (decided (q x))
+
 -- what may be found
 
 module _ {ℓ} {A : Type ℓ} where
@@ -289,13 +301,23 @@ module _ {ℓ κ} {A : Type ℓ} {B : Type κ} (f : A → List B) where
       (λ (m′ : List·Memᴰ y (flatMap f xs)). let r = mem-flatMap xs m′ in (r .0, List·Memᴰ·tail (r .1), r .2))
       (List·Memᴰ·append-cases (f x) m)
 
+  pub flatMap-append : (xs ys : List A) → flatMap f (xs ++ ys) ≡ flatMap f xs ++ flatMap f ys
+  unfolding flatMap
+  flatMap-append [] ys = refl
+  flatMap-append (x ∷ xs) ys = ap (λ (l : List B). f x ++ l) (flatMap-append xs ys) ∙ sym (append-assoc (f x) (flatMap f xs) (flatMap f ys))
+
+  pub flatMap-agree : (g : A → List B) (xs : List A) → ((x : A) → List·Memᴰ x xs → f x ≡ g x) → flatMap f xs ≡ flatMap g xs
+  unfolding flatMap
+  flatMap-agree g [] h = refl
+  flatMap-agree g (x ∷ xs) h = ap₂ _++_ (h x (List·Memᴰ·head refl)) (flatMap-agree g xs (λ y m. h y (List·Memᴰ·tail m)))
+
 -- equal counts, and a list in front of another
 
-pub same-count-mem : {u : ℕ} {xs ys : List ℕ} → count u xs ≡ count u ys → List·Memᴰ u xs → List·Memᴰ u ys
+pub same-count-mem : {u : ℕ} {xs ys : List ℕ} → occurrences u xs ≡ occurrences u ys → List·Memᴰ u xs → List·Memᴰ u ys
 same-count-mem {u} {ys = ys} e m = count-mem u ys (rw e at (mem-count m))
 
-pub any-append {ℓ} : {A : Type ℓ} (p : A → Bool) (xs ys : List A) → any p (xs ++ ys) ≡ (any p xs || any p ys)
-unfolding any
+pub any-append {ℓ} : {A : Type ℓ} (p : A → Bool) (xs ys : List A) → exists p (xs ++ ys) ≡ (exists p xs || exists p ys)
+unfolding exists
 any-append p [] ys = refl
 any-append p (x ∷ xs) ys =
-    ⊎-elim (λ (e : p x ≡ true). rw (e, any)) (λ (e : p x ≡ false). rw (e, any) (any-append p xs ys)) (decided (p x))
+    ⊎-elim (λ (e : p x ≡ true). rw (e, exists)) (λ (e : p x ≡ false). rw (e, exists) (any-append p xs ys)) (decided (p x))

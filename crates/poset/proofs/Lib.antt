@@ -1,4 +1,5 @@
 pub mod Laws
+pub mod Areas
 pub mod Sums
 pub mod Searches
 pub mod Closure

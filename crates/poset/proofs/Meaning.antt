@@ -7,7 +7,7 @@ use mathlib.Core.Logic.{_⊎_, inl, inr, ⊎-elim}
 use native.Mathlib.Nat.{eq-zero-or-pos}
 use lib.Dec.{eqb, ltb}
 use native.Mathlib.Omega.{arith}
-use Rattle.poset.specs.Lists.{count}
+use Rattle.poset.specs.Lists.{occurrences}
 use Rattle.poset.specs.Order.{Rel, Strict}
 use Rattle.poset.specs.Tree.{
   Kind,
@@ -123,20 +123,20 @@ mutual
 
 -- each job once, and those below n
 
-count-group : (u : ℕ) (t : Tree) (f : Forest) → count u (leaves t ++ forestLeaves f) ≡ count u (leaves t) + count u (forestLeaves f)
+count-group : (u : ℕ) (t : Tree) (f : Forest) → occurrences u (leaves t ++ forestLeaves f) ≡ occurrences u (leaves t) + occurrences u (forestLeaves f)
 count-group u t f = count-append u (leaves t) (forestLeaves f)
 
 abbrev AtMostOne : (ℕ → ℕ) → Type 0
 AtMostOne c = (u : ℕ) → c u ≤ 1
 
-apart-of-count : (t : Tree) (f : Forest) → AtMostOne (λ u. count u (leaves t ++ forestLeaves f)) → Apart t f
+apart-of-count : (t : Tree) (f : Forest) → AtMostOne (λ u. occurrences u (leaves t ++ forestLeaves f)) → Apart t f
 apart-of-count t f c u p q =
     omega (arith, c u, count-group u t f, mem-count (in-leaves t p), mem-count (in-forestLeaves f q))
 
 mutual
   unfolding leaves
 
-  once-of-count : (t : Tree) → AtMostOne (λ u. count u (leaves t)) → Once t
+  once-of-count : (t : Tree) → AtMostOne (λ u. occurrences u (leaves t)) → Once t
   once-of-count (leaf j) c = tt
   once-of-count (node k t f) c = (
     once-of-count t (λ u. omega (arith, c u, count-group u t f)),
@@ -144,7 +144,7 @@ mutual
     apart-of-count t f c,
   )
 
-  onceForest-of-count : (f : Forest) → AtMostOne (λ u. count u (forestLeaves f)) → OnceForest f
+  onceForest-of-count : (f : Forest) → AtMostOne (λ u. occurrences u (forestLeaves f)) → OnceForest f
   onceForest-of-count (last t) c = once-of-count t c
   onceForest-of-count (more t f) c = (
     once-of-count t (λ u. omega (arith, c u, count-group u t f)),
@@ -152,15 +152,16 @@ mutual
     apart-of-count t f c,
   )
 
-single-count : (u j : ℕ) → count u (j ∷ []) ≤ 1
-unfolding count
+single-count : (u j : ℕ) → occurrences u (j ∷ []) ≤ 1
+unfolding occurrences
 single-count u j =
     ⊎-elim
     (λ e. omega (arith, count-same u j [] (eqb-true u j e)))
     (λ e. omega (arith, count-other u j [] (λ q. clash (ap (eqb u) (sym q) ∙ eqb-same u) e)))
     (decided (eqb u j))
 
-group-count : (u : ℕ) (t : Tree) (f : Forest) → Apart t f → count u (leaves t) ≤ 1 → count u (forestLeaves f) ≤ 1 → count u (leaves t ++ forestLeaves f) ≤ 1
+group-count : (u : ℕ) (t : Tree) (f : Forest) → Apart t f → occurrences u (leaves t) ≤ 1 → occurrences u (forestLeaves f) ≤ 1
+    → occurrences u (leaves t ++ forestLeaves f) ≤ 1
 group-count u t f apart p q =
     ⊎-elim
     (λ z. omega (arith, count-group u t f))
@@ -168,17 +169,17 @@ group-count u t f apart p q =
     ⊎-elim
     (λ z. omega (arith, count-group u t f))
     (λ b. absurd (apart u (leaves-in t (count-mem u (leaves t) a)) (forestLeaves-in f (count-mem u (forestLeaves f) b))))
-    (eq-zero-or-pos (count u (forestLeaves f))))
-    (eq-zero-or-pos (count u (leaves t)))
+    (eq-zero-or-pos (occurrences u (forestLeaves f))))
+    (eq-zero-or-pos (occurrences u (leaves t)))
 
 mutual
-  unfolding leaves count
+  unfolding leaves occurrences
 
-  pub once-count : (t : Tree) → Once t → AtMostOne (λ u. count u (leaves t))
+  pub once-count : (t : Tree) → Once t → AtMostOne (λ u. occurrences u (leaves t))
   once-count (leaf j) o u = single-count u j
   once-count (node k t f) o u = group-count u t f (o .2) (once-count t (o .0) u) (onceForest-count f (o .1) u)
 
-  onceForest-count : (f : Forest) → OnceForest f → AtMostOne (λ u. count u (forestLeaves f))
+  onceForest-count : (f : Forest) → OnceForest f → AtMostOne (λ u. occurrences u (forestLeaves f))
   onceForest-count (last t) o u = once-count t o u
   onceForest-count (more t f) o u = group-count u t f (o .2) (once-count t (o .0) u) (onceForest-count f (o .1) u)
 
@@ -187,10 +188,10 @@ pub record Holds (n : ℕ) (t : Tree) : Type 0 where
   pub inside : (u : ℕ) → In t u → u < n
   pub outside : (u : ℕ) → u < n → In t u
 
-spans-yes : (n : ℕ) (t : Tree) → Spans n t → (u : ℕ) → ltb u n ≡ true → count u (leaves t) ≡ 1
+spans-yes : (n : ℕ) (t : Tree) → Spans n t → (u : ℕ) → ltb u n ≡ true → occurrences u (leaves t) ≡ 1
 spans-yes n t s u e = s u ∙ ap (λ b. cond b 1 0) e
 
-spans-not : (n : ℕ) (t : Tree) → Spans n t → (u : ℕ) → ltb u n ≡ false → count u (leaves t) ≡ 0
+spans-not : (n : ℕ) (t : Tree) → Spans n t → (u : ℕ) → ltb u n ≡ false → occurrences u (leaves t) ≡ 0
 spans-not n t s u e = s u ∙ ap (λ b. cond b 1 0) e
 
 pub spans-holds : (n : ℕ) (t : Tree) → Spans n t → Once t × Holds n t
@@ -208,7 +209,7 @@ pub holds-spans : (n : ℕ) (t : Tree) → Once t → Holds n t → Spans n t
 holds-spans n t o h u =
     ⊎-elim
     (λ e.
-    let once : count u (leaves t) ≡ 1 = omega (arith, once-count t o u, mem-count (in-leaves t (h .outside u (ltb-true u n e)))) in
+    let once : occurrences u (leaves t) ≡ 1 = omega (arith, once-count t o u, mem-count (in-leaves t (h .outside u (ltb-true u n e)))) in
     once ∙ ap (λ b. cond b 1 0) (sym e))
     (λ e.
     count-zero u (leaves t) (λ m. clash (lt-true u n (h .inside u (leaves-in t m))) e) ∙ ap (λ b. cond b 1 0) (sym e))

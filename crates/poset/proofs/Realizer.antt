@@ -6,7 +6,7 @@ use mathlib.Core.Bool.{true, false, _&&_, cond}
 use mathlib.Core.Logic.{_⊎_, inl, inr, _↔_}
 use native.Mathlib.Omega.{arith}
 use lib.Dec.{eqb, ltb}
-use Rattle.poset.specs.Lists.{any, member, count, aheadIn}
+use Rattle.poset.specs.Lists.{exists, member, occurrences, aheadIn}
 use Rattle.poset.specs.Order.{Rel}
 use Rattle.poset.specs.Tree.{Kind, series, parallel, Tree, leaf, node, Forest, last, more, Spans, Means}
 use Rattle.poset.specs.Tree.{leaves, forestLeaves, joined, reversed, forestReversed, precedes, forestPrecedes}
@@ -33,36 +33,36 @@ use Rattle.poset.proofs.Meaning.{spans-holds}
 
 -- both sequences hold the same jobs, each equally often
 
-joined-count : (u : ℕ) (k : Kind) (xs ys : List ℕ) → count u (joined k xs ys) ≡ count u xs + count u ys
+joined-count : (u : ℕ) (k : Kind) (xs ys : List ℕ) → occurrences u (joined k xs ys) ≡ occurrences u xs + occurrences u ys
 unfolding joined
 joined-count u series xs ys = count-append u xs ys
 joined-count u parallel xs ys = omega (arith, count-append u ys xs)
 
-group-same-count : (u : ℕ) (k : Kind) (t : Tree) (f : Forest) → count u (reversed t) ≡ count u (leaves t)
-    → count u (forestReversed k f) ≡ count u (forestLeaves f)
-    → count u (joined k (reversed t) (forestReversed k f)) ≡ count u (leaves t ++ forestLeaves f)
+group-same-count : (u : ℕ) (k : Kind) (t : Tree) (f : Forest) → occurrences u (reversed t) ≡ occurrences u (leaves t)
+    → occurrences u (forestReversed k f) ≡ occurrences u (forestLeaves f)
+    → occurrences u (joined k (reversed t) (forestReversed k f)) ≡ occurrences u (leaves t ++ forestLeaves f)
 group-same-count u k t f p q =
     omega (arith, joined-count u k (reversed t) (forestReversed k f), count-append u (leaves t) (forestLeaves f))
 
 mutual
   unfolding leaves reversed
 
-  pub reversed-count : (t : Tree) (u : ℕ) → count u (reversed t) ≡ count u (leaves t)
+  pub reversed-count : (t : Tree) (u : ℕ) → occurrences u (reversed t) ≡ occurrences u (leaves t)
   reversed-count (leaf j) u = refl
   reversed-count (node k t f) u = group-same-count u k t f (reversed-count t u) (forestReversed-count f k u)
 
-  pub forestReversed-count : (f : Forest) (k : Kind) (u : ℕ) → count u (forestReversed k f) ≡ count u (forestLeaves f)
+  pub forestReversed-count : (f : Forest) (k : Kind) (u : ℕ) → occurrences u (forestReversed k f) ≡ occurrences u (forestLeaves f)
   forestReversed-count (last t) k u = reversed-count t u
   forestReversed-count (more t f) k u = group-same-count u k t f (reversed-count t u) (forestReversed-count f k u)
 
-pub reversed-spans : (n : ℕ) (t : Tree) → Spans n t → (u : ℕ) → count u (reversed t) ≡ cond (ltb u n) 1 0
+pub reversed-spans : (n : ℕ) (t : Tree) → Spans n t → (u : ℕ) → occurrences u (reversed t) ≡ cond (ltb u n) 1 0
 reversed-spans n t s u = reversed-count t u ∙ s u
 
 -- a list holds exactly the jobs of S
 abbrev Lists : List ℕ → (ℕ → Type 0) → Type 0
 Lists xs S = (u : ℕ) → List·Memᴰ u xs ↔ S u
 
-lists-same : {S : ℕ → Type 0} {xs ys : List ℕ} → ((u : ℕ) → count u ys ≡ count u xs) → Lists xs S → Lists ys S
+lists-same : {S : ℕ → Type 0} {xs ys : List ℕ} → ((u : ℕ) → occurrences u ys ≡ occurrences u xs) → Lists xs S → Lists ys S
 lists-same e l u = (λ m. l u .0 (same-count-mem (e u) m), λ h. same-count-mem (sym (e u)) (l u .1 h))
 
 -- a group's jobs in two lists: those of its first child, and those of the others
@@ -131,7 +131,7 @@ group-realizes k t f apart a b u v (inr p) (inr q) =
     ∙ sym (group-right k t f apart u v p q)
 
 mutual
-  unfolding any member leaves reversed precedes
+  unfolding exists member leaves reversed precedes
 
   pub tree-realizes : (t : Tree) → Once t → Realizes t
   tree-realizes (leaf j) o = λ u v p q. rw (ahead-here u v j [] (ap (eqb u) (sym p) ∙ eqb-same u))

@@ -9,7 +9,8 @@ use native.Mathlib.Omega.{arith}
 use Rattle.poset.specs.Lists.{keep, upFrom, below}
 use Rattle.poset.specs.Order.{Rel, Arc, Strict, arc, before, covers, pairsOf, reduction, SmallerArc, Ascending, empty, single, next}
 use Rattle.poset.proofs.Laws.{decided, clash, false-unless, and-left, and-right, and-intro, not-true, not-false, same-test, any-miss, any-none}
-use Rattle.poset.proofs.Laws.{keep-yes, keep-not, keep-mem, mem-keep, mem-upFrom, below-mem, mem-below, flatMap-mem, mem-flatMap}
+use Rattle.poset.proofs.Laws.{keep-yes, keep-not, keep-mem, mem-keep, keep-agree, mem-upFrom, below-mem, mem-below}
+use Rattle.poset.proofs.Laws.{flatMap-mem, mem-flatMap, flatMap-agree}
 use Rattle.poset.proofs.Closure.{via-base, via-trans, via-ind, via-split, arc-mem}
 
 -- ascending lists
@@ -142,3 +143,21 @@ module _ (n : ℕ) (r : Rel) where
       (λ h. arc-mem arcs (a .0) (a .1) .0 h)
       (λ s. absurd (c .3 (s .0) (s .1) (sym (same (a .0) (s .0) (c .0) (s .1)) ∙ s .2) (sym (same (s .0) (a .1) (s .1) (c .1)) ∙ s .3)))
       (via-split (arc arcs) n (a .0) (a .1) (same (a .0) (a .1) (c .0) (c .1) ∙ c .2))
+
+-- the reduction depends on the relation among the jobs below n alone
+
+module _ (n : ℕ) where
+  covers-from : (r q : Rel) → ((u v : ℕ) → u < n → v < n → r u v ≡ q u v) → (u v : ℕ) → u < n → v < n → covers n r u v ≡ true → covers n q u v ≡ true
+  covers-from r q same u v lu lv h =
+      let c = covers-iff n r u v .0 h in
+      covers-iff n q u v .1 (sym (same u v lu lv) ∙ c .0, λ w l x y. c .1 w l (same u w lu l ∙ x) (same w v l lv ∙ y))
+
+  pub reduction-same : (r q : Rel) → ((u v : ℕ) → u < n → v < n → r u v ≡ q u v) → reduction n r ≡ reduction n q
+  unfolding reduction pairsOf
+  reduction-same r q same =
+      flatMap-agree _ _ (below n) λ u lu.
+      ap (map (λ v. (u, v)))
+      (keep-agree _ _ (below n) λ v lv.
+      same-test (covers n r u v) (covers n q u v)
+      (covers-from r q same u v (mem-below n lu) (mem-below n lv))
+      (covers-from q r (λ x y lx ly. sym (same x y lx ly)) u v (mem-below n lu) (mem-below n lv)))

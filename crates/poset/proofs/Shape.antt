@@ -7,7 +7,7 @@ use mathlib.Core.Bool.{Bool, true, false, _&&_, _||_, not, cond}
 use mathlib.Core.Logic.{_⊎_, inl, inr, ⊎-elim, _↔_}
 use lib.Dec.{eqb, ltb, T, lt→ltb, ltb→lt}
 use native.Mathlib.Omega.{arith}
-use Rattle.poset.specs.Lists.{member, count}
+use Rattle.poset.specs.Lists.{member, occurrences}
 use Rattle.poset.specs.Order.{Rel, comparable, incomparable}
 use Rattle.poset.specs.Tree.{Kind, series, parallel, Tree, leaf, node, Forest, last, more}
 use Rattle.poset.specs.Tree.{leaves, forestLeaves, across, precedes, forestPrecedes}

@@ -7,7 +7,7 @@ use mathlib.Core.Option.{none, some}
 use mathlib.Core.Logic.{_↔_, _⊎_}
 use lib.Dec.{ltb}
 use lib.ListN.{length}
-use Rattle.poset.specs.Lists.{count, aheadIn}
+use Rattle.poset.specs.Lists.{occurrences, aheadIn}
 use Rattle.poset.specs.Order.{Arc, Rel, Within, Run, before, Strict, firstOnCycle, Four, NAt, HasN, firstN, SmallerFour, reduction, Ascending}
 use Rattle.poset.specs.Tree.{Tree, leaves, reversed, precedes, Spans, Means, HasTree, canonical}
 use Rattle.poset.specs.Decompose.{treeOf}
@@ -94,7 +94,7 @@ pub realizer
 realizer = Realizer.realizer
 
 -- the reverse sequence, too, has each job below n once
-pub reversed-spans : (n : ℕ) (t : Tree) → Spans n t → (u : ℕ) → count u (reversed t) ≡ cond (ltb u n) 1 0
+pub reversed-spans : (n : ℕ) (t : Tree) → Spans n t → (u : ℕ) → occurrences u (reversed t) ≡ cond (ltb u n) 1 0
 reversed-spans = Realizer.reversed-spans
 
 -- The transitive reduction.

@@ -6,9 +6,9 @@ use mathlib.Core.Option.{Option, none, some}
 use lib.Dec.{eqb}
 
 -- some element passes the test
-unfoldable pub any {ℓ} : {A : Type ℓ} → (A → Bool) → List A → Bool
-any p [] = false
-any p (x ∷ xs) = elim (p x) [ true ↦ true | false ↦ any p xs ]
+unfoldable pub exists {ℓ} : {A : Type ℓ} → (A → Bool) → List A → Bool
+exists p [] = false
+exists p (x ∷ xs) = elim (p x) [ true ↦ true | false ↦ exists p xs ]
 
 -- the elements that pass the test, in their order
 unfoldable pub keep {ℓ} : {A : Type ℓ} → (A → Bool) → List A → List A
@@ -16,12 +16,12 @@ keep p [] = []
 keep p (x ∷ xs) = elim (p x) [ true ↦ x ∷ keep p xs | false ↦ keep p xs ]
 
 unfoldable pub member : ℕ → List ℕ → Bool
-member x = any (eqb x)
+member x = exists (eqb x)
 
 -- how often x stands in a list
-unfoldable pub count : ℕ → List ℕ → ℕ
-count x [] = 0
-count x (y ∷ ys) = elim (eqb x y) [ true ↦ suc (count x ys) | false ↦ count x ys ]
+unfoldable pub occurrences : ℕ → List ℕ → ℕ
+occurrences x [] = 0
+occurrences x (y ∷ ys) = elim (eqb x y) [ true ↦ suc (occurrences x ys) | false ↦ occurrences x ys ]
 
 -- k, k + 1, .., n numbers in all
 unfoldable pub upFrom : ℕ → ℕ → List ℕ

@@ -6,7 +6,7 @@ use mathlib.Core.Bool.{Bool, true, false, _&&_, _||_, not}
 use mathlib.Core.Option.{Option}
 use mathlib.Core.Logic.{_⊎_}
 use lib.Dec.{eqb}
-use Rattle.poset.specs.Lists.{any, keep, below, first, onlyIf}
+use Rattle.poset.specs.Lists.{exists, keep, below, first, onlyIf}
 
 -- An arc: the first job is done before the second. (Document 01: an order.)
 abbrev pub Arc : Type 0
@@ -25,7 +25,7 @@ pub data Run (arcs : List Arc) : ℕ → ℕ → Type 0 where
   then : {u w v : ℕ} → List·Memᴰ (u, w) arcs → Run arcs w v → Run arcs u v
 
 unfoldable pub arc : List Arc → Rel
-arc arcs u v = any (λ a. eqb (a .0) u && eqb (a .1) v) arcs
+arc arcs u v = exists (λ a. eqb (a .0) u && eqb (a .1) v) arcs
 
 -- a run of r whose inner jobs are all below k (Warshall)
 unfoldable pub via : Rel → ℕ → Rel
@@ -88,7 +88,7 @@ SmallerFour p q =
 
 -- u is before v and no job is both after u and before v
 unfoldable pub covers : ℕ → Rel → Rel
-covers n r u v = r u v && not (any (λ w. r u w && r w v) (below n))
+covers n r u v = r u v && not (exists (λ w. r u w && r w v) (below n))
 
 -- the pairs of a relation among the jobs below n, by first job, then second
 unfoldable pub pairsOf : ℕ → Rel → List Arc

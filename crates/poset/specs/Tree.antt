@@ -4,7 +4,7 @@ use mathlib.Core.Path.{_≡_}
 use mathlib.Core.List.{List, [], _∷_, _++_}
 use mathlib.Core.Bool.{Bool, true, false, _&&_, _||_, cond}
 use lib.Dec.{ltb}
-use Rattle.poset.specs.Lists.{member, count}
+use Rattle.poset.specs.Lists.{member, occurrences}
 use Rattle.poset.specs.Order.{Rel}
 
 -- Document 01: a chain is a series group, a side group a parallel one.
@@ -62,7 +62,7 @@ unfoldable mutual
 
 -- the leaves are the jobs below n, each once
 abbrev pub Spans : ℕ → Tree → Type 0
-Spans n t = (u : ℕ) → count u (leaves t) ≡ cond (ltb u n) 1 0
+Spans n t = (u : ℕ) → occurrences u (leaves t) ≡ cond (ltb u n) 1 0
 
 -- the tree means the relation on the jobs below n
 pub record Means (n : ℕ) (t : Tree) (r : Rel) : Type 0 where

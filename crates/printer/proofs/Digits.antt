@@ -70,7 +70,7 @@ most-digits (suc k) x h =
 pub most-three : (x : ℕ) → x < 1000 → length (digits x) ≤ 3
 most-three = most-digits 2
 
-pub most-twenty : (x : ℕ) → x < 10 ^ 20 → length (digits x) ≤ 20
+most-twenty : (x : ℕ) → x < 10 ^ 20 → length (digits x) ≤ 20
 most-twenty = most-digits 19
 
 pub hex-small : (d : ℕ) → d < 10 → 48 + d ≡ hexDigit d
@@ -94,6 +94,10 @@ spaced-parts x = refl
 pub spaced-long : (x : ℕ) → length (spaced x) ≡ length (digits x) + 1
 unfolding spaced
 spaced-long x = omega arith
+
+-- a space and a number of 64 bits
+pub spaced-most : (x : ℕ) → x < 10 ^ 20 → (length (spaced x) ≡ length (digits x) + 1) × (length (digits x) ≤ 20)
+spaced-most x h = (spaced-long x, most-twenty x h)
 
 pub arc-parts : (u v : ℕ) → digits u ++ spaced v ++ 10 ∷ [] ≡ arcLine (u, v)
 unfolding arcLine lineEnd

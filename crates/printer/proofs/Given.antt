@@ -6,12 +6,12 @@ use native.Mathlib.Omega.{arith}
 use lib.ListN.{length, take, drop, getD, length-take, List·getD-append}
 use lib.Seq.{take-at}
 use borrow.Author.Tests.{ne-eqb}
-use Rattle.poset.specs.Areas.{overlay}
+use Rattle.poset.specs.Areas.{overlay, arcBytes}
 use Rattle.poset.specs.Order.{Arc, before}
 use Rattle.poset.specs.Tree.{leaves, groups}
+use Rattle.poset.proofs.Areas.{bytes-length}
 use Rattle.poset.proofs.Theorems.{tree-is-strict, reduction-fits}
-use Rattle.relation.specs.Arcs.{pairs, arcBytes}
-use Rattle.relation.proofs.Listing.{bytes-length}
+use Rattle.relation.specs.Arcs.{pairs}
 use Rattle.record.proofs.Sizes.{length-leaves}
 use Rattle.record.proofs.Theorems.{layout-length}
 use Rattle.writer.proofs.Worklist.{reversed-length}
@@ -21,6 +21,7 @@ use Rattle.analysis.specs.Result.{answerOf, rooms, Gives}
 use Rattle.analysis.specs.declared.Verdict.{Verdict}
 use Rattle.analysis.specs.declared.Analysis.{Analysis}
 use Rattle.analysis.specs.Claims.{Yield}
+use Rattle.analysis.proofs.Steps.{pairs-bytes}
 use Rattle.analysis.proofs.Inputs.{sheet-fate}
 use Rattle.analysis.proofs.Answers.{sheet-yield}
 use Rattle.analysis.proofs.Crossing.{gives-same}
@@ -60,11 +61,6 @@ pub record Parts (o : Outcome) (told bytes area forward reverse : List ℕ) : Ty
   pub few-arcs : getD told 2 0 ≤ 4096
   pub few-jobs : getD bytes 0 0 / 2 + 1 ≤ 128
   pub verdict-is : answer 0 (getD told 1 0) (getD told 2 0) (getD told 3 0) 0 ≡ o .verdict
-
-pairs-bytes : (arcs : List Arc) → pairs (arcBytes arcs) ≡ arcs
-unfolding pairs arcBytes flatMap
-pairs-bytes [] = refl
-pairs-bytes (a ∷ arcs) = ap (λ (l : List Arc). a ∷ l) (pairs-bytes arcs)
 
 module _ {n : ℕ} {arcs : List Arc} {o : Outcome} (y : Yield n arcs o) {bytes area : List ℕ} {r : Analysis} {bytes′ area′ : List ℕ}
     (g : Gives o bytes area r bytes′ area′) {told : List ℕ} (t : told ≡ numbersOf (answerOf (r .verdict))) where

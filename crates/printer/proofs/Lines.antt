@@ -2,7 +2,7 @@
 use Prim.Native.Nat.{ℕ, _+_, _*_, _<_}
 use mathlib.Core.Bool.{false}
 use mathlib.Core.Path.{_≡_, refl}
-use mathlib.Core.List.{List, [], _∷_, _++_, flatMap}
+use mathlib.Core.List.{List, [], _∷_, _++_, append-assoc, append-nil, flatMap}
 use native.Mathlib.Omega.{arith}
 use lib.Dec.{eqb}
 use lib.ListN.{length, length-append}
@@ -15,6 +15,10 @@ use Rattle.printer.specs.Text.{ascii, hexByte, spaced, line, recordLine,
 pub line-parts : (w numbers : List ℕ) → w ++ flatMap spaced numbers ++ 10 ∷ [] ≡ line w numbers
 unfolding line lineEnd
 line-parts w numbers = refl
+
+pub three-parts : (w : List ℕ) (a b c : ℕ) → w ++ spaced a ++ spaced b ++ spaced c ++ 10 ∷ [] ≡ line w (a ∷ b ∷ c ∷ [])
+unfolding line lineEnd flatMap
+three-parts w a b c = simp (append-assoc, append-nil)
 
 -- the line of the record
 
@@ -39,9 +43,11 @@ record-long bytes =
 
 -- the whole text
 
-pub refused-is : (n a b c d : ℕ) → 0 < n → line (ascii "refused") (n ∷ a ∷ b ∷ c ∷ d ∷ []) ≡ printed (refuse n a b c d)
-unfolding printed refusedText refuse
-refused-is n a b c d h = let e : eqb n 0 ≡ false = ne-eqb n 0 (λ z. omega arith) in rw (e, printed)
+pub refused-is
+    : (n a b c d : ℕ) → 0 < n
+    → ascii "refused" ++ spaced n ++ spaced a ++ spaced b ++ spaced c ++ spaced d ++ 10 ∷ [] ≡ printed (refuse n a b c d)
+unfolding printed refusedText refuse line lineEnd flatMap
+refused-is n a b c d h = let e : eqb n 0 ≡ false = ne-eqb n 0 (λ z. omega arith) in rw (e, printed) (simp (append-assoc, append-nil))
 
 pub accepted-is : (arcs groups : ℕ) (bytes reduced forward reverse : List ℕ)
     → line (ascii "accepted") (length bytes ∷ arcs ∷ groups ∷ [])

@@ -1,26 +1,22 @@
 -- A loop that writes the text of each element of a list.
 use Prim.Native.Nat.{ℕ, _+_, _*_, _≤_, _<_}
 use mathlib.Core.Path.{_≡_, refl, sym, ap, _∙_}
-use mathlib.Core.List.{List, [], _∷_, _++_, append-assoc, append-nil, flatMap}
+use mathlib.Core.List.{List, [], _∷_, _++_, append-nil, flatMap}
 use native.Mathlib.Nat.{mul-add}
 use native.Mathlib.Numerals.{add-one}
 use native.Mathlib.Omega.{arith}
 use lib.ListN.{length, take, getD}
 use lib.Seq.{take-suc, take-all}
+use Rattle.poset.proofs.Laws.{flatMap-append}
 use Rattle.printer.specs.Buffer.{Writes}
 use Rattle.printer.proofs.Buffers.{writes-none, join, writes-of}
 
 module _ {A B : Type 0} (f : A → List B) where
-  flatMap-append : (xs ys : List A) → flatMap f (xs ++ ys) ≡ flatMap f xs ++ flatMap f ys
-  unfolding flatMap
-  flatMap-append [] ys = refl
-  flatMap-append (x ∷ xs) ys = ap (λ (l : List B). f x ++ l) (flatMap-append xs ys) ∙ sym (append-assoc (f x) (flatMap f xs) (flatMap f ys))
-
   flatMap-take : (xs : List A) (i : ℕ) (z : A) → i < length xs → flatMap f (take i xs) ++ f (getD xs i z) ≡ flatMap f (take (i + 1) xs)
   unfolding flatMap
   flatMap-take xs i z h =
       ap (λ (l : List B). flatMap f (take i xs) ++ l) (sym (append-nil (f (getD xs i z))))
-      ∙ sym (flatMap-append (take i xs) (getD xs i z ∷ []))
+      ∙ sym (flatMap-append f (take i xs) (getD xs i z ∷ []))
       ∙ ap (flatMap f) (sym (take-suc xs i z h) ∙ ap (λ (n : ℕ). take n xs) (sym (add-one i)))
 
 -- a byte is its own text

@@ -3,7 +3,7 @@ pub mod outcome;
 
 ghost use Prim.Native.Nat.{_+_, _*_, _≤_, _<_};
 ghost use mathlib.Core.Path.{_≡_};
-ghost use mathlib.Core.List.{[], _∷_, flatMap};
+ghost use mathlib.Core.List.{[], _∷_, _++_, flatMap};
 ghost use lib.ListN.{length};
 ghost use Rattle.relation.specs.Arcs.{pairs};
 ghost use Rattle.analysis.specs.Outcome.{refuse};
@@ -126,32 +126,6 @@ fn put_arcs(reduced: &[u8], out: &mut [u8], at: usize) -> usize
     end
 }
 
-// each number after a space
-fn put_numbers(numbers: &[usize], out: &mut [u8], at: usize) -> usize
-    requires { ⌜ at + 21 * length (now numbers) ≤ length (now out) ⌝ }
-    ensures text { λ r. ⌜ Writes (now (out .entry)) at (flatMap spaced (now (numbers .entry))) (now (out .exit)) r ⌝ }
-    ensures most { λ r. ⌜ r ≤ at + 21 * length (now (numbers .entry)) ⌝ }
-{
-    let mut end = at;
-    let mut i = 0;
-    while i < numbers.len() {
-        end = put_spaced(numbers[i], out, end);
-        i += 1;
-    }
-    end
-}
-
-// a line of a word and numbers
-fn put_line(word: &[u8], numbers: &[usize], out: &mut [u8], at: usize) -> usize
-    requires { ⌜ at + length (now word) + 21 * length (now numbers) < length (now out) ⌝ }
-    ensures text { λ r. ⌜ Writes (now (out .entry)) at (line (now (word .entry)) (now (numbers .entry))) (now (out .exit)) r ⌝ }
-    ensures most { λ r. ⌜ r ≤ at + length (now (word .entry)) + 21 * length (now (numbers .entry)) + 1 ⌝ }
-{
-    let named = put_word(word, out, at);
-    let filled = put_numbers(numbers, out, named);
-    put_byte(b'\n', out, filled)
-}
-
 // a line of a word and the entries of a sequence
 fn put_sequence(word: &[u8], entries: &[u8], out: &mut [u8], at: usize) -> usize
     requires { ⌜ at + length (now word) + 4 * length (now entries) < length (now out) ⌝ }
@@ -161,6 +135,18 @@ fn put_sequence(word: &[u8], entries: &[u8], out: &mut [u8], at: usize) -> usize
     let named = put_word(word, out, at);
     let filled = put_entries(entries, out, named);
     put_byte(b'\n', out, filled)
+}
+
+// a word and three numbers, at the start of the buffer
+fn put_three(word: &[u8], a: usize, b: usize, c: usize, out: &mut [u8]) -> usize
+    requires { ⌜ length (now word) + 63 ≤ length (now out) ⌝ }
+    ensures text { λ r. ⌜ Writes (now (out .entry)) 0 (now (word .entry) ++ spaced a ++ spaced b ++ spaced c) (now (out .exit)) r ⌝ }
+    ensures most { λ r. ⌜ r ≤ length (now (word .entry)) + 63 ⌝ }
+{
+    let named = put_word(word, out, 0);
+    let first = put_spaced(a, out, named);
+    let second = put_spaced(b, out, first);
+    put_spaced(c, out, second)
 }
 
 fn put_record(bytes: &[u8], out: &mut [u8], at: usize) -> usize
@@ -174,7 +160,7 @@ fn put_record(bytes: &[u8], out: &mut [u8], at: usize) -> usize
 
 // The text of an acceptance, at the start of the buffer: `reduced` has two bytes for each arc, `forward` and `reverse` one for each job.
 // Returns its length.
-pub fn accepted_text(
+fn accepted_text(
     arcs: usize,
     groups: usize,
     record: &[u8],
@@ -188,8 +174,8 @@ pub fn accepted_text(
         (printed (accepted arcs groups (now («record» .entry)) (now (reduced .entry)) (now (forward .entry)) (now (reverse .entry))))
         (now (out .exit)) r ⌝ }
 {
-    let counts = [record.len(), arcs, groups];
-    let counted = put_line(b"accepted", &counts, out, 0);
+    let named = put_three(b"accepted", record.len(), arcs, groups, out);
+    let counted = put_byte(b'\n', out, named);
     let recorded = put_record(record, out, counted);
     let listed = put_arcs(reduced, out, recorded);
     let forwarded = put_sequence(b"forward", forward, out, listed);
@@ -197,11 +183,13 @@ pub fn accepted_text(
 }
 
 // The text of a refusal, at the start of the buffer. Returns its length.
-pub fn refused_text(number: usize, a: usize, b: usize, c: usize, d: usize, out: &mut [u8]) -> usize
+fn refused_text(number: usize, a: usize, b: usize, c: usize, d: usize, out: &mut [u8]) -> usize
     requires { ⌜ 0 < number ⌝ }
     requires { ⌜ 113 ≤ length (now out) ⌝ }
     ensures { λ r. ⌜ Prints (now (out .entry)) (printed (refuse number a b c d)) (now (out .exit)) r ⌝ }
 {
-    let numbers = [number, a, b, c, d];
-    put_line(b"refused", &numbers, out, 0)
+    let second = put_three(b"refused", number, a, b, out);
+    let third = put_spaced(c, out, second);
+    let fourth = put_spaced(d, out, third);
+    put_byte(b'\n', out, fourth)
 }

@@ -1,51 +1,35 @@
--- What the readers' calls ask: that the lists and the position serve the callee, and that fewer bits are left.
+-- What the readers' calls ask: that the lists serve the callee, and that fewer bits are left.
 use Prim.Native.Nat.{ℕ, suc, _+_, _-_, _*_, _≤_, _<_}
-use mathlib.Core.Path.{_≡_, _∙_}
+use mathlib.Core.Path.{_≡_}
 use mathlib.Core.List.{List}
 use native.Mathlib.Omega.{arith}
-use Rattle.poset.specs.Tree.{Kind}
-use Rattle.record.specs.Bits.{bitsOf}
-use Rattle.record.proofs.Fields.{length-bits}
-use Rattle.record.proofs.Bytes.{length-bitsOf}
-use Rattle.reader.specs.Fields.{At, header}
-use Rattle.reader.specs.Parts.{Lists, Ready}
+use Rattle.reader.specs.Parts.{Lists, place, Ready}
 use Rattle.reader.specs.declared.parts.Part.{Part}
-use Rattle.reader.proofs.Children.{Bounded, Advanced}
+use Rattle.poset.specs.Tree.{Kind}
+use Rattle.reader.proofs.Children.{Run}
 
 -- twice the bits left, and one more for the children of a group
 
-abbrev pub childMeasure : ℕ → ℕ
-childMeasure at = 2 * (2176 - at)
+abbrev pub childMeasure : ℕ → ℕ → ℕ
+childMeasure done gone = 2 * (2176 - place done gone)
 
-abbrev pub childrenMeasure : ℕ → ℕ
-childrenMeasure at = suc (2 * (2176 - at))
+abbrev pub childrenMeasure : ℕ → ℕ → ℕ
+childrenMeasure done gone = suc (2 * (2176 - place done gone))
 
-module _ (bytes : List ℕ) (n at m : ℕ) (seen next : List ℕ) (r : Ready bytes n at seen next) where
-  -- the first of the children
-  pub call-child : childrenMeasure at ≡ m → (childMeasure at < m) × Ready bytes n at seen next
-  call-child e = (omega arith, r)
+-- a child of a group
+pub call-child : (k : Kind) {bytes : List ℕ} {n c done gone : ℕ} {w : Lists} {left floor : ℕ} {v : Lists} {p : Part} (m : ℕ)
+    → Run k bytes n c done gone w left floor v p → childrenMeasure done gone ≡ m
+    → (childMeasure (p .done) (p .groups) < m) × Ready bytes n (p .done) (p .groups) (v .seen) (v .next)
+call-child k m r e = (omega (arith, r .onward), r .ready)
 
-  -- the children after it
-  pub call-rest : (forward : List ℕ) (v : Lists) (p : Part)
-      → Advanced (bitsOf bytes) at (record { seen = seen; forward = forward; next = next }) v p → childrenMeasure at ≡ m
-      → (childrenMeasure (p .at) < m) × Ready bytes n (p .at) (v .seen) (v .next)
-  call-rest forward v p a e =
-      let end : p .at ≤ 2176 = omega (arith, a .within, length-bitsOf bytes, r .short) in (
-        omega (arith, a .longer),
-        record { short = r .short; few = r .few; start = end; marks = a .marks ∙ r .marks; links = a .links ∙ r .links },
-      )
+-- the children of a group
+pub call-children : (bytes : List ℕ) (n done gone m c : ℕ) (seen next : List ℕ) → Ready bytes n done gone seen next → gone + 1 < n → c < 128
+    → childMeasure done gone ≡ m → (childrenMeasure done (gone + 1) < m) × ((c < 128) × Ready bytes n done (gone + 1) seen next)
+call-children bytes n done gone m c seen next r less small e = (
+  omega (arith, r .few, r .named),
+  (small, record { short = r .short; few = r .few; named = r .named; opened = less; marks = r .marks; links = r .links }),
+)
 
-  module _ (k : Kind) (c : ℕ) (s : At (bitsOf bytes) at (header k c)) where
-    group-end : at + 9 ≤ 2176
-    group-end = omega (arith, s .within, length-bits 7 c, length-bitsOf bytes, r .short)
-
-    -- the children of a group
-    pub call-children : childMeasure at ≡ m → (childrenMeasure (at + 9) < m) × Ready bytes n (at + 9) seen next
-    call-children e = (
-      omega (arith, group-end),
-      record { short = r .short; few = r .few; start = group-end; marks = r .marks; links = r .links },
-    )
-
--- two parts linked
-pub call-linked : {p q : Part} → Bounded p → Bounded q → (p .last < 128) × (q .first < 128) × (p .groups < 128) × (q .groups < 128)
-call-linked a b = (a .lasts, b .firsts, a .few, b .few)
+-- the next node
+pub node-place : {bytes : List ℕ} {n done gone : ℕ} {seen next : List ℕ} → Ready bytes n done gone seen next → place done gone ≤ 2176
+node-place r = omega (arith, r .few, r .named, r .opened)

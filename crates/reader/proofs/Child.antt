@@ -15,10 +15,10 @@ use Rattle.poset.proofs.Canonical.{least-in, least-le}
 use Rattle.record.specs.Bits.{bits}
 use Rattle.record.specs.Layout.{kindBit, moreChildren, treeBits, forestBits}
 use Rattle.record.proofs.Fields.{length-bits}
-use Rattle.record.proofs.Sizes.{Small}
+use Rattle.record.proofs.Sizes.{Small, forest-groups}
 use Rattle.reader.specs.Fields.{At, NodeAt, header}
-use Rattle.reader.specs.Parts.{Lists, Strand, alone, Free, Placed, Found, LeafRead, Grouped, ChildRead, ChildrenRead, refusedPart}
-use Rattle.reader.specs.Parts.{Plain, PlainUnder, PlainChildren, ofTree, ofForest}
+use Rattle.reader.specs.Parts.{Lists, Strand, alone, place, Free, Placed, Found, LeafRead, Above, ChildRead, ChildrenRead}
+use Rattle.reader.specs.Parts.{Plain, PlainUnder, PlainChildren, ofTree, ofForest, refusedPart}
 use Rattle.reader.specs.declared.nodes.Node.{Node}
 use Rattle.reader.specs.declared.parts.Part.{Part}
 use Rattle.reader.proofs.Positions.{at-join}
@@ -41,20 +41,18 @@ unfolding kindBit
 no-child series g l p q = ⊎-elim (λ e. inl e) (λ h. inr (omega arith)) (eq-or-lt-of-le l)
 no-child parallel g l p q = ⊎-elim (λ e. inl e) (λ h. inr (omega arith)) (eq-or-lt-of-le l)
 
--- the children of a group as the group
-groupPart : Part → Part
-groupPart q = record { ok = true; at = q .at; done = q .done; groups = q .groups + 1; least = q .least; first = q .first; last = q .last }
-
-group-placed : (bs : List ℕ) (at done : ℕ) (w v : Lists) (q : Part) (k : Kind) (t : Tree) (f : Forest) → At bs at (header k (moreChildren f))
-    → Placed bs (at + 9) done w v q (ofForest k (more t f)) → Placed bs at done w v (groupPart q) (ofTree (node k t f))
-unfolding groupPart treeBits leaves reversed least groups
-group-placed bs at done w v q k t f s r =
+group-placed : (bs : List ℕ) (done gone : ℕ) (w v : Lists) (q : Part) (k : Kind) (t : Tree) (f : Forest)
+    → At bs (place done gone) (header k (moreChildren f)) → Placed bs done (gone + 1) w v q (ofForest k (more t f))
+    → Placed bs done gone w v q (ofTree (node k t f))
+unfolding treeBits leaves reversed least groups
+group-placed bs done gone w v q k t f s r =
     let head : List ℕ = header k (moreChildren f) in
     let body : List ℕ = treeBits t ++ forestBits f in
-    let place : at + 9 ≡ at + length head = omega (arith, length-bits 7 (moreChildren f)) in
+    let size : length head ≡ 9 = omega (arith, length-bits 7 (moreChildren f)) in
+    let after : place done (gone + 1) ≡ place done gone + length head = omega (arith, size) in
     record {
-      stands = at-join head body s (subst (λ (i : ℕ). At bs i body) place (r .stands));
-      end = r .end ∙ omega (arith, length-append head body);
+      stands = at-join head body s (subst (λ (i : ℕ). At bs i body) after (r .stands));
+      end = omega (arith, r .end, size, length-append head body);
       number = r .number;
       groups = omega (arith, r .groups);
       least = r .least;
@@ -65,15 +63,28 @@ group-placed bs at done w v q k t f s r =
       room = r .room;
     }
 
-free-floor : {n floor done : ℕ} {s js : List ℕ} (low : ℕ) → Free n floor done s js → ((u : ℕ) → List·Memᴰ u js → low ≤ u) → Free n low done s js
-free-floor low f above = record { inside = f .inside; above = above; unseen = f .unseen; room = f .room }
+module _ {n floor done gone : ℕ} {s : List ℕ} (k : Kind) (t : Tree) (f : Forest) where
+  children-free : Free n floor done gone s (ofTree (node k t f)) → Free n 0 done (gone + 1) s (ofForest k (more t f))
+  unfolding leaves groups
+  children-free r = record { inside = r .inside; above = λ u m. omega arith; unseen = r .unseen; room = r .room; fewer = omega (arith, r .fewer) }
 
-module _ (k : Kind) (bs : List ℕ) (n floor at done : ℕ) (few : n ≤ 128) (nd : Node) (h : NodeAt bs at nd) (seen forward next : List ℕ) where
+  group-free : Free n 0 done (gone + 1) s (ofForest k (more t f)) → ((u : ℕ) → List·Memᴰ u (leaves (node k t f)) → floor ≤ u)
+      → Free n floor done gone s (ofTree (node k t f))
+  unfolding leaves groups
+  group-free r above = record { inside = r .inside; above = above; unseen = r .unseen; room = r .room; fewer = omega (arith, r .fewer) }
+
+-- a group is one of the groups
+group-counts : (k : Kind) (t : Tree) (f : Forest) → 0 < groups (node k t f)
+unfolding groups
+group-counts k t f = omega arith
+
+module _ (k : Kind) (bs : List ℕ) (n floor done gone : ℕ) (few : n ≤ 128) (nd : Node) (h : NodeAt bs (place done gone) nd)
+    (seen forward next : List ℕ) where
   module _ (seen' forward' : List ℕ) (p : Part) where
-    pub child-leaf : nd .tag ≡ 0 → LeafRead n floor (nd .value) (at + 8) done seen forward seen' forward' p
-        → ChildRead k bs n floor at done seen forward next seen' forward' next p
+    pub child-leaf : gone < n → nd .tag ≡ 0 → LeafRead n floor (nd .value) done gone seen forward seen' forward' p
+        → ChildRead k bs n floor done gone seen forward next seen' forward' next p
     unfolding treeBits leaves reversed least groups alternates
-    child-leaf e r =
+    child-leaf opened e r =
         let j : ℕ = nd .value in
         record {
           some = λ ok.
@@ -85,12 +96,13 @@ module _ (k : Kind) (bs : List ℕ) (n floor at done : ℕ) (few : n ≤ 128) (n
                   above = λ u m. subst (λ (v : ℕ). floor ≤ v) (sym (List·Memᴰ·eq-of-singleton m)) above;
                   unseen = λ u m. ap (λ (v : ℕ). getD seen v 0) (List·Memᴰ·eq-of-singleton m) ∙ unseen;
                   room = omega arith;
+                  fewer = omega arith;
                 },
                 record {
                   stands = h .leafAt e;
-                  end = ap (λ (q : Part). q .at) same ∙ omega (arith, length-bits 7 j);
+                  end = ap (λ (q : Part). place (q .done) (q .groups)) same ∙ omega (arith, length-bits 7 j);
                   number = ap (λ (q : Part). q .done) same ∙ omega arith;
-                  groups = ap (λ (q : Part). q .groups) same;
+                  groups = ap (λ (q : Part). q .groups) same ∙ omega arith;
                   least = ap (λ (q : Part). q .least) same;
                   seen = marks;
                   forward = goes;
@@ -100,7 +112,7 @@ module _ (k : Kind) (bs : List ℕ) (n floor at done : ℕ) (few : n ≤ 128) (n
                 },
               );
           none = λ bad t may free s.
-              subst (λ (t : Tree). Free n floor done seen (leaves t) → ⊥)
+              subst (λ (t : Tree). Free n floor done gone seen (ofTree t) → ⊥)
               (sym (only-leaf j t (h .small) (free-small few free) (h .leafAt e) s))
               (λ free.
               let here : List·Memᴰ j (j ∷ []) = List·Memᴰ·head refl in
@@ -109,13 +121,13 @@ module _ (k : Kind) (bs : List ℕ) (n floor at done : ℕ) (few : n ≤ 128) (n
         }
 
   module _ (seen' forward' next' : List ℕ) (p : Part) where
-    refusal : p .ok ≡ false → ((t : Tree) → PlainUnder k t → Free n floor done seen (leaves t) → At bs at (treeBits t) → ⊥)
-        → ChildRead k bs n floor at done seen forward next seen' forward' next' p
+    refusal : p .ok ≡ false → ((t : Tree) → PlainUnder k t → Free n floor done gone seen (ofTree t) → At bs (place done gone) (treeBits t) → ⊥)
+        → ChildRead k bs n floor done gone seen forward next seen' forward' next' p
     refusal bad none = record { some = λ ok. absurd (clash ok bad); none = λ _. none }
 
     -- no node, or a kind directly in its kind
     pub child-none : (nd .tag ≡ 0 → ⊥) → (nd .tag ≡ suc (kindBit (other k)) → ⊥) → p ≡ refusedPart
-        → ChildRead k bs n floor at done seen forward next seen' forward' next' p
+        → ChildRead k bs n floor done gone seen forward next seen' forward' next' p
     child-none not-leaf not-other bad =
         refusal (refused-not bad) λ t may free s.
         ⊎-elim
@@ -126,12 +138,19 @@ module _ (k : Kind) (bs : List ℕ) (n floor at done : ℕ) (few : n ≤ 128) (n
         (no-child k (nd .tag) (h .tags) not-leaf not-other)
 
     module _ (e : nd .tag ≡ suc (kindBit (other k))) where
+      -- a group too many
+      pub child-full : n ≤ gone + 1 → p ≡ refusedPart → ChildRead k bs n floor done gone seen forward next seen' forward' next' p
+      child-full full bad =
+          refusal (refused-not bad) λ t may free s.
+          let g = only-group (other k) (nd .value) t (h .small) (free-small few free) (h .groupAt (other k) e) s in
+          omega (arith, free .fewer, ap groups (g .same), group-counts (other k) (g .first) (g .others))
+
       -- a group: its children stand after its own bits
       pub child-group : (part : Part)
-          → ChildrenRead (other k) (nd .value) bs n 0 (at + 9) done seen forward next seen' forward' next' part → Grouped floor part p
-          → ChildRead k bs n floor at done seen forward next seen' forward' next' p
-      unfolding groupPart treeBits leaves least moreChildren
-      child-group part r g = record { some = λ ok. found (g .some ok); none = missing }
+          → ChildrenRead (other k) (nd .value) bs n done (gone + 1) seen forward next seen' forward' next' part → Above floor part p
+          → ChildRead k bs n floor done gone seen forward next seen' forward' next' p
+      unfolding treeBits leaves least moreChildren
+      child-group part r g = record { some = λ ok. found ok (g .some ok); none = missing }
         where
           l : Kind
           l = other k
@@ -146,32 +165,34 @@ module _ (k : Kind) (bs : List ℕ) (n floor at done : ℕ) (few : n ≤ 128) (n
           v = record { seen = seen'; forward = forward'; next = next' }
 
           -- the children are those of a group
-          as-group : (f : Forest) → PlainChildren l c f → Placed bs (at + 9) done w v part (ofForest l f) → (s : Tree) × (o : Forest)
-              × (f ≡ more s o) × Placed bs at done w v (groupPart part) (ofTree (node l s o))
+          as-group : (f : Forest) → PlainChildren l c f → Placed bs done (gone + 1) w v part (ofForest l f) → (s : Tree) × (o : Forest)
+              × (f ≡ more s o) × Placed bs done gone w v part (ofTree (node l s o))
           as-group (last s) may q = absurd (omega (arith, may .0, h .several l e))
           as-group (more s o) may q =
               let number : c ≡ moreChildren o = omega (arith, may .0) in
-              (s, o, refl, group-placed bs at done w v part l s o (subst (λ (m : ℕ). At bs at (header l m)) number (h .groupAt l e)) q)
+              (s, o, refl, group-placed bs done gone w v part l s o (subst (λ (m : ℕ). At bs (place done gone) (header l m)) number (h .groupAt l e)) q)
 
-          found : (part .ok ≡ true) × (floor ≤ part .least) × (p ≡ groupPart part)
-              → (t : Tree) × PlainUnder k t × Free n floor done seen (leaves t) × Placed bs at done w v p (ofTree t)
-          found (good, above, same) =
-              let (f, may, free, q) = r .some good in
+          found : p .ok ≡ true → (floor ≤ part .least) × (p ≡ part)
+              → (t : Tree) × PlainUnder k t × Free n floor done gone seen (ofTree t) × Placed bs done gone w v p (ofTree t)
+          found ok (above, same) =
+              let (f, may, free, q) = r .some (sym (ap (λ (x : Part). x .ok) same) ∙ ok) in
               let (s, o, split, placed) = as-group f may q in
               let may-more : PlainChildren l c (more s o) = subst (PlainChildren l c) split may in
-              let free-more : Free n 0 done seen (forestLeaves (more s o)) = subst (λ (x : Forest). Free n 0 done seen (forestLeaves x)) split free in (
+              let free-more : Free n 0 done (gone + 1) seen (ofForest l (more s o)) =
+              subst (λ (x : Forest). Free n 0 done (gone + 1) seen (ofForest l x)) split free in (
                 node l s o,
                 (under-other k s o, (may-more .1, may-more .2)),
-                free-floor floor free-more (λ u m. omega (arith, placed .least, least-le (node l s o) u (leaves-in (node l s o) m))),
-                subst (λ (x : Part). Placed bs at done w v x (ofTree (node l s o))) (sym same) placed,
+                group-free l s o free-more (λ u m. omega (arith, placed .least, least-le (node l s o) u (leaves-in (node l s o) m))),
+                subst (λ (x : Part). Placed bs done gone w v x (ofTree (node l s o))) (sym same) placed,
               )
 
-          missing : p .ok ≡ false → (t : Tree) → PlainUnder k t → Free n floor done seen (leaves t) → At bs at (treeBits t) → ⊥
+          missing : p .ok ≡ false → (t : Tree) → PlainUnder k t → Free n floor done gone seen (ofTree t) → At bs (place done gone) (treeBits t) → ⊥
           missing bad t may free stands =
               let i = only-group l c t (h .small) (free-small few free) (h .groupAt l e) stands in
               let x : Tree = node l (i .first) (i .others) in
               let may-x : PlainUnder k x = subst (PlainUnder k) (i .same) may in
-              let free-x : Free n floor done seen (leaves x) = subst (λ (y : Tree). Free n floor done seen (leaves y)) (i .same) free in
+              let free-x : Free n floor done gone seen (ofTree x) = subst (λ (y : Tree). Free n floor done gone seen (ofTree y)) (i .same) free in
+              let after : place done gone + 9 ≡ place done (gone + 1) = omega arith in
               ⊎-elim
               (λ (good : part .ok ≡ true).
               let (f, m, free-f, q) = r .some good in
@@ -180,40 +201,63 @@ module _ (k : Kind) (bs : List ℕ) (n floor at done : ℕ) (few : n ≤ 128) (n
               let same : node l s o ≡ t = one-tree (node l s o) t small (free-small few free) (placed .stands) stands in
               g .none bad good (omega (arith, placed .least, ap least same, free .above (least t) (in-leaves t (least-in t)))))
               (λ (ill : part .ok ≡ false).
-              r .none ill (more (i .first) (i .others)) (ap suc (i .number), may-x .1 .0, may-x .1 .1) (free-floor 0 free-x (λ u m. omega arith)) (i .children))
+              r .none ill (more (i .first) (i .others)) (ap suc (i .number), may-x .1 .0, may-x .1 .1) (children-free l (i .first) (i .others) free-x)
+              (subst (λ (a : ℕ). At bs a (forestBits (more (i .first) (i .others)))) after (i .children)))
               (decided (part .ok))
 
--- a tree that stands in no group: the reader that takes it is that of the children of the other kind
+-- a tree that stands in no group
 
-module _ (bs : List ℕ) (n floor at done : ℕ) (few : n ≤ 128) (nd : Node) (h : NodeAt bs at nd) (w v : Lists) (p : Part) where
-  any-kind : (k : Kind) → ((t : Tree) → Free n floor done (w .seen) (leaves t) → At bs at (treeBits t) → alternates k t ≡ true)
-      → Found ofTree (PlainUnder k) bs n floor at done w v p → Found ofTree Plain bs n floor at done w v p
-  any-kind k under r = record {
-    some = λ ok. let (t, may, free, placed) = r .some ok in (t, may .1, free, placed);
-    none = λ bad t may free s. r .none bad t (under t free s, may) free s;
+module _ (bs : List ℕ) (n floor done gone : ℕ) (few : n ≤ 128) (nd : Node) (h : NodeAt bs (place done gone) nd) (w v : Lists) (p : Part) where
+  -- one that is no chain is the only child of one
+  pub tree-child : (nd .tag ≡ 1 → ⊥) → Found (ofForest series) (PlainChildren series 0) bs n floor done gone w v p
+      → Found ofTree Plain bs n floor done gone w v p
+  unfolding kindBit alternates treeBits leaves reversed least groups moreChildren
+  tree-child no-chain r = record {
+    some = λ ok. let (f, may, free, placed) = r .some ok in only f may free placed;
+    none = λ bad t may free s. r .none bad (last t) (refl, (under t free s, may .0), may .1) free s;
   }
-
-  group-under : (k : Kind) → nd .tag ≡ suc (kindBit (other k)) → (t : Tree) → Free n floor done (w .seen) (leaves t) → At bs at (treeBits t)
-      → alternates k t ≡ true
-  group-under k e t free s =
-      let g = only-group (other k) (nd .value) t (h .small) (free-small few free) (h .groupAt (other k) e) s in
-      ap (alternates k) (g .same) ∙ under-other k (g .first) (g .others)
-
-  pub chain-tree : nd .tag ≡ 1 → Found ofTree (PlainUnder parallel) bs n floor at done w v p → Found ofTree Plain bs n floor at done w v p
-  unfolding kindBit
-  chain-tree e = any-kind parallel (group-under parallel e)
-
-  pub side-tree : (nd .tag ≡ 1 → ⊥) → Found ofTree (PlainUnder series) bs n floor at done w v p → Found ofTree Plain bs n floor at done w v p
-  unfolding kindBit alternates
-  side-tree no-chain = any-kind series λ t free s.
-      ⊎-elim
-      (λ (e : nd .tag ≡ 0). ap (alternates series) (only-leaf (nd .value) t (h .small) (free-small few free) (h .leafAt e) s))
-      (λ rest. ⊎-elim (λ (e : nd .tag ≡ 2). group-under series e t free s) (λ (e : nd .tag ≡ 3). absurd (h .noneAt e t (free-small few free) s)) rest)
-      (tags (h .tags))
     where
+      only : (f : Forest) → PlainChildren series 0 f → Free n floor done gone (w .seen) (ofForest series f) → Placed bs done gone w v p (ofForest series f)
+          → (t : Tree) × Plain t × Free n floor done gone (w .seen) (ofTree t) × Placed bs done gone w v p (ofTree t)
+      only (last t) may free placed = (t, (may .1 .1, may .2), free, placed)
+      only (more t f) may free placed = absurd (omega (arith, may .0, forest-groups f))
+
       tags : nd .tag ≤ 3 → (nd .tag ≡ 0) ⊎ ((nd .tag ≡ 2) ⊎ (nd .tag ≡ 3))
       tags l =
           ⊎-elim
           (λ e. inr (inr e))
           (λ (h : nd .tag < 3). ⊎-elim (λ (e : suc (nd .tag) ≡ 3). inr (inl (omega arith))) (λ (l′ : suc (nd .tag) < 3). inl (omega arith)) (eq-or-lt-of-le h))
           (eq-or-lt-of-le l)
+
+      under : (t : Tree) → Free n floor done gone (w .seen) (ofTree t) → At bs (place done gone) (treeBits t) → alternates series t ≡ true
+      under t free s =
+          let small = free-small few free in
+          ⊎-elim
+          (λ (e : nd .tag ≡ 0). ap (alternates series) (only-leaf (nd .value) t (h .small) small (h .leafAt e) s))
+          (λ rest.
+          ⊎-elim
+          (λ (e : nd .tag ≡ 2).
+          let g = only-group parallel (nd .value) t (h .small) small (h .groupAt parallel e) s in
+          ap (alternates series) (g .same) ∙ under-other series (g .first) (g .others))
+          (λ (e : nd .tag ≡ 3). absurd (h .noneAt e t small s))
+          rest)
+          (tags (h .tags))
+
+  pub tree-chain : nd .tag ≡ 1 → Found ofTree (PlainUnder parallel) bs n floor done gone w v p → Found ofTree Plain bs n floor done gone w v p
+  unfolding kindBit
+  tree-chain e r = record {
+    some = λ ok. let (t, may, free, placed) = r .some ok in (t, may .1, free, placed);
+    none = λ bad t may free s.
+        let g = only-group series (nd .value) t (h .small) (free-small few free) (h .groupAt series e) s in
+        r .none bad t (ap (alternates parallel) (g .same) ∙ under-other parallel (g .first) (g .others), may) free s;
+  }
+
+  -- a chain where there can be no group
+  pub tree-full : nd .tag ≡ 1 → n ≤ gone + 1 → p ≡ refusedPart → Found ofTree Plain bs n floor done gone w v p
+  unfolding kindBit
+  tree-full e full bad = record {
+    some = λ ok. absurd (clash ok (refused-not bad));
+    none = λ _ t may free s.
+        let g = only-group series (nd .value) t (h .small) (free-small few free) (h .groupAt series e) s in
+        omega (arith, free .fewer, ap groups (g .same), group-counts series (g .first) (g .others));
+  }

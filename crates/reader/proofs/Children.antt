@@ -1,267 +1,337 @@
--- The children of a group of kind k: a child, and those after it.
+-- The children of a group of kind k, read one after another.
 use Prim.Native.Nat.{ℕ, suc, _+_, _-_, _≤_, _<_, min}
 use mathlib.Core.Path.{_≡_, refl, sym, ap, ap₂, subst, _∙_}
 use mathlib.Core.List.{List, _++_, List·Memᴰ, Memᴰ·append-left, Memᴰ·append-right}
-use mathlib.Core.Bool.{true, false}
+use mathlib.Core.Bool.{Bool, true, false}
+use mathlib.Core.Logic.{⊎-elim}
 use native.Mathlib.Omega.{arith}
 use lib.ListN.{length, set, length-append, length-set}
 use lib.Seq.{sets, getD-set-other}
-use Rattle.poset.specs.Lists.{count}
-use Rattle.poset.specs.Tree.{Kind, series, parallel, Tree, node, Forest, last, more, leaves, forestLeaves, joined, reversed, forestReversed, least, groups}
-use Rattle.poset.proofs.Laws.{clash, same-count-mem}
-use Rattle.poset.proofs.Shape.{Once, OnceForest, in-leaves, leaves-in, in-forestLeaves, forestLeaves-in}
-use Rattle.poset.proofs.Canonical.{Leads, least-in}
-use Rattle.poset.proofs.Meaning.{once-count}
-use Rattle.poset.proofs.Realizer.{reversed-count, forestReversed-count}
+use Rattle.poset.specs.Tree.{Kind, series, parallel, Tree, Forest, last, more, leaves, forestLeaves, joined, reversed, least, groups}
+use Rattle.poset.proofs.Laws.{decided, clash, same-count-mem}
+use Rattle.poset.proofs.Shape.{OnceForest, in-leaves, leaves-in, forestLeaves-in}
+use Rattle.poset.proofs.Canonical.{CanonForest, least-in}
+use Rattle.poset.proofs.Realizer.{reversed-count}
+use Rattle.record.specs.Bits.{bitsOf}
 use Rattle.record.specs.Layout.{moreChildren, treeBits, forestBits}
-use Rattle.record.proofs.Sizes.{groups-lt, forest-groups, length-treeBits}
 use Rattle.reader.specs.Fields.{At}
-use Rattle.reader.specs.Parts.{Lists, marked, Strand, Free, Placed, Found, PlainUnder, PlainChildren, ofTree, ofForest, linkedPart}
+use Rattle.reader.specs.Parts.{Piece, Lists, marked, Strand, place, Ready, Free, Placed, Found, PlainUnder, PlainChildren, ofTree, ofForest}
+use Rattle.reader.specs.Parts.{unreadPart, front, behind, longer, longerNext}
 use Rattle.reader.specs.declared.parts.Part.{Part}
 use Rattle.reader.proofs.Positions.{at-left, at-right, at-join}
-use Rattle.reader.proofs.Strands.{strand-first, strand-last, strand-kept, strand-link}
+use Rattle.reader.proofs.Strands.{strand-last, strand-kept, strand-link}
+use Rattle.reader.proofs.Pieces.{both, Sound, back-in, back-once, sound-tree, sound-forest, floorAfter, leads-above}
+use Rattle.reader.proofs.Pieces.{snoc, lastOf, piece-snoc, snoc-number, snoc-last, canon-snoc, once-snoc}
 use Rattle.reader.proofs.Marks.{length-marked, marked-append, sets-append, free-left, free-right, free-apart, free-join, free-small}
 use Rattle.reader.proofs.Inversion.{one-tree}
-
--- the floor under the children of a group, and under those after one whose smallest job is m
-
-abbrev pub Ground : Kind → ℕ → Type 0
-Ground series floor = floor ≡ 0
-Ground parallel floor = Unit {0}
-
-abbrev pub floorAfter : Kind → ℕ → ℕ
-floorAfter series m = 0
-floorAfter parallel m = m + 1
-
-leads-above : (k : Kind) (t : Tree) (f : Forest) → Leads k t f → (u : ℕ) → List·Memᴰ u (forestLeaves f) → floorAfter k (least t) ≤ u
-leads-above series t f l u m = omega arith
-leads-above parallel t f l u m = omega (arith, l u (forestLeaves-in f m))
-
-above-leads : (k : Kind) (t : Tree) (f : Forest) → ((u : ℕ) → List·Memᴰ u (forestLeaves f) → floorAfter k (least t) ≤ u) → Leads k t f
-above-leads series t f h = tt
-above-leads parallel t f h = λ u i. omega (arith, h u (in-forestLeaves f i))
-
-above-floor : (k : Kind) (floor m u : ℕ) → Ground k floor → floor ≤ m → floorAfter k m ≤ u → floor ≤ u
-above-floor series floor m u g h l = omega arith
-above-floor parallel floor m u g h l = omega arith
-
--- the one of two parts that is ahead in the reverse sequence, and the one behind
-
-abbrev pub front : Kind → Part → Part → Part
-front series p q = p
-front parallel p q = q
-
-abbrev pub behind : Kind → Part → Part → Part
-behind series p q = q
-behind parallel p q = p
-
--- jobs in the reverse sequence
 
 pub reversed-in : (t : Tree) {u : ℕ} → List·Memᴰ u (reversed t) → List·Memᴰ u (leaves t)
 reversed-in t {u} m = same-count-mem (reversed-count t u) m
 
-reversed-once : (t : Tree) (u : ℕ) → Once t → count u (reversed t) ≤ 1
-reversed-once t u o = omega (arith, reversed-count t u, once-count t o u)
+-- a piece and the one after it, linked
 
-forest-in : (k : Kind) (f : Forest) {u : ℕ} → List·Memᴰ u (forestReversed k f) → List·Memᴰ u (forestLeaves f)
-forest-in k f {u} m = same-count-mem (forestReversed-count f k u) m
-
-forest-once : (k : Kind) (f : Forest) (u : ℕ) → OnceForest f → count u (forestReversed k f) ≤ 1
-unfolding leaves
-forest-once k (last t) u o = omega (arith, forestReversed-count (last t) k u, once-count t o u)
-forest-once k (more t f) u o = omega (arith, forestReversed-count (more t f) k u, once-count (node k t f) o u)
-
-joined-strand : {next : List ℕ} (k : Kind) (t : Tree) (f : Forest) (p q : Part) → Once t → OnceForest f
-    → ((u : ℕ) → List·Memᴰ u (leaves t) → List·Memᴰ u (forestLeaves f) → ⊥) → front k p q .last < length next
-    → Strand next (p .first) (reversed t) (p .last) → Strand next (q .first) (forestReversed k f) (q .last)
-    → Strand (set next (front k p q .last) (behind k p q .first)) (front k p q .first) (joined k (reversed t) (forestReversed k f)) (behind k p q .last)
+joined-strand : {next : List ℕ} (k : Kind) (x y : Piece) (p q : Part) → Sound x → Sound y
+    → ((u : ℕ) → List·Memᴰ u (x .forth) → List·Memᴰ u (y .forth) → ⊥) → front k p q .last < length next
+    → Strand next (p .first) (x .back) (p .last) → Strand next (q .first) (y .back) (q .last)
+    → Strand (set next (front k p q .last) (behind k p q .first)) (front k p q .first) (joined k (x .back) (y .back)) (behind k p q .last)
 unfolding joined
-joined-strand series t f p q o o′ apart l s r =
-    strand-link (reversed-once t (p .last) o) (forest-once series f (q .last) o′)
-    (λ m. apart (p .last) (reversed-in t (strand-last s)) (forest-in series f m)) l s r
-joined-strand parallel t f p q o o′ apart l s r =
-    strand-link (forest-once parallel f (q .last) o′) (reversed-once t (p .last) o)
-    (λ m. apart (q .last) (reversed-in t m) (forest-in parallel f (strand-last r))) l r s
+joined-strand series x y p q a b apart l s r =
+    strand-link (back-once a (p .last)) (back-once b (q .last)) (λ m. apart (p .last) (back-in a (strand-last s)) (back-in b m)) l s r
+joined-strand parallel x y p q a b apart l s r =
+    strand-link (back-once b (q .last)) (back-once a (p .last)) (λ m. apart (q .last) (back-in a m) (back-in b (strand-last r))) l r s
 
 -- what holds at both ends of a link holds at either
 front-last : (k : Kind) (X : ℕ → Type 0) (p q : Part) → X (p .last) → X (q .last) → X (front k p q .last)
 front-last series X p q x y = x
 front-last parallel X p q x y = y
 
-both-groups : (k : Kind) (p q : Part) → front k p q .groups + behind k p q .groups ≡ p .groups + q .groups
-both-groups series p q = refl
-both-groups parallel p q = omega arith
-
-both-least : (k : Kind) (p q : Part) → min (front k p q .least) (behind k p q .least) ≡ min (p .least) (q .least)
-both-least series p q = refl
-both-least parallel p q = omega arith
+abbrev linkedPart : Kind → Part → Part → Part
+linkedPart k p q =
+    record {
+      ok = true;
+      done = q .done;
+      groups = q .groups;
+      least = min (p .least) (q .least);
+      first = front k p q .first;
+      last = behind k p q .last;
+    }
 
 abbrev linkedLists : Kind → Lists → Part → Part → Lists
 linkedLists k v p q = record { seen = v .seen; forward = v .forward; next = set (v .next) (front k p q .last) (behind k p q .first) }
 
--- a child and those after it, placed
-module _ (k : Kind) (bs : List ℕ) (at done : ℕ) (w v v' : Lists) (t : Tree) (f : Forest) (p q : Part) where
-  joined-placed : Placed bs at done w v p (ofTree t) → Placed bs (p .at) (p .done) v v' q (ofForest k f) → Once t → OnceForest f
-      → ((u : ℕ) → List·Memᴰ u (leaves t) → List·Memᴰ u (forestLeaves f) → ⊥) → ((u : ℕ) → List·Memᴰ u (leaves t ++ forestLeaves f) → u < length (w .next))
-      → Placed bs at done w (linkedLists k v' p q) (linkedPart (front k p q) (behind k p q) (q .at) (q .done)) (ofForest k (more t f))
-  unfolding leaves treeBits reversed least groups
-  joined-placed x y once once-rest apart inside =
-      let rooms : length (v' .next) ≡ length (w .next) = y .room ∙ x .room in
-      let xs : List ℕ = leaves t in
-      let ys : List ℕ = forestLeaves f in
-      let last-in : List·Memᴰ (front k p q .last) (xs ++ ys) =
-      front-last k (λ u. List·Memᴰ u (xs ++ ys)) p q
-      (Memᴰ·append-left ys (reversed-in t (strand-last (x .strand))))
-      (Memᴰ·append-right xs (forest-in k f (strand-last (y .strand)))) in
+module _ (k : Kind) (p q : Part) where
+  longer-first : p .ok ≡ false → longer k p q ≡ q
+  longer-first e = ap (λ (b : Bool). elim b as (λ _. Part) [ false ↦ q | true ↦ linkedPart k p q ]) e
+
+  longer-linked : p .ok ≡ true → longer k p q ≡ linkedPart k p q
+  longer-linked e = ap (λ (b : Bool). elim b as (λ _. Part) [ false ↦ q | true ↦ linkedPart k p q ]) e
+
+  module _ (next : List ℕ) where
+    next-first : p .ok ≡ false → longerNext k p q next ≡ next
+    next-first e = ap (λ (b : Bool). elim b as (λ _. List ℕ) [ false ↦ next | true ↦ set next (front k p q .last) (behind k p q .first) ]) e
+
+    next-linked : p .ok ≡ true → longerNext k p q next ≡ set next (front k p q .last) (behind k p q .first)
+    next-linked e = ap (λ (b : Bool). elim b as (λ _. List ℕ) [ false ↦ next | true ↦ set next (front k p q .last) (behind k p q .first) ]) e
+
+  -- in either case it ends where the child does
+  longer-ends : (longer k p q .done ≡ q .done) × (longer k p q .groups ≡ q .groups) × (q .ok ≡ true → longer k p q .ok ≡ true)
+  longer-ends =
+      ⊎-elim
+      (λ (e : p .ok ≡ true).
+      (ap (λ (x : Part). x .done) (longer-linked e), ap (λ (x : Part). x .groups) (longer-linked e), λ _. ap (λ (x : Part). x .ok) (longer-linked e)))
+      (λ (e : p .ok ≡ false).
+      (ap (λ (x : Part). x .done) (longer-first e), ap (λ (x : Part). x .groups) (longer-first e), λ ok. ap (λ (x : Part). x .ok) (longer-first e) ∙ ok))
+      (decided (p .ok))
+
+module _ (k : Kind) (bs : List ℕ) (done gone : ℕ) (w v v' : Lists) (x y : Piece) (p q : Part) where
+  joined-placed : Placed bs done gone w v p x → Placed bs (p .done) (p .groups) v v' q y → Sound x → Sound y
+      → ((u : ℕ) → List·Memᴰ u (x .forth) → List·Memᴰ u (y .forth) → ⊥) → ((u : ℕ) → List·Memᴰ u (x .forth ++ y .forth) → u < length (w .next))
+      → Placed bs done gone w (linkedLists k v' p q) (linkedPart k p q) (both k x y)
+  joined-placed a b sound-x sound-y apart inside =
+      let rooms : length (v' .next) ≡ length (w .next) = b .room ∙ a .room in
+      let last-in : List·Memᴰ (front k p q .last) (x .forth ++ y .forth) =
+      front-last k (λ u. List·Memᴰ u (x .forth ++ y .forth)) p q
+      (Memᴰ·append-left (y .forth) (back-in sound-x (strand-last (a .strand))))
+      (Memᴰ·append-right (x .forth) (back-in sound-y (strand-last (b .strand)))) in
       let end : ℕ = front k p q .last in
       record {
-        stands = at-join (treeBits t) (forestBits f) (x .stands) (subst (λ (i : ℕ). At bs i (forestBits f)) (x .end) (y .stands));
-        end = omega (arith, x .end, y .end, length-append (treeBits t) (forestBits f));
-        number = omega (arith, x .number, y .number, length-append xs ys);
-        groups = both-groups k p q ∙ ap₂ _+_ (x .groups) (y .groups);
-        least = both-least k p q ∙ ap₂ min (x .least) (y .least);
-        seen = y .seen ∙ ap (λ (s : List ℕ). marked s ys) (x .seen) ∙ sym (marked-append (w .seen) xs ys);
+        stands = at-join (x .spelt) (y .spelt) (a .stands) (subst (λ (i : ℕ). At bs i (y .spelt)) (a .end) (b .stands));
+        end = omega (arith, a .end, b .end, length-append (x .spelt) (y .spelt));
+        number = omega (arith, a .number, b .number, length-append (x .forth) (y .forth));
+        groups = omega (arith, a .groups, b .groups);
+        least = ap₂ min (a .least) (b .least);
+        seen = b .seen ∙ ap (λ (s : List ℕ). marked s (y .forth)) (a .seen) ∙ sym (marked-append (w .seen) (x .forth) (y .forth));
         forward =
-            y .forward
-            ∙ ap₂ (λ (l : List ℕ) (i : ℕ). sets l i ys) (x .forward) (x .number)
-            ∙ sym (sets-append (w .forward) done xs ys);
+            b .forward
+            ∙ ap₂ (λ (l : List ℕ) (i : ℕ). sets l i (y .forth)) (a .forward) (a .number)
+            ∙ sym (sets-append (w .forward) done (x .forth) (y .forth));
         strand =
-            joined-strand k t f p q once once-rest apart (omega (arith, inside end last-in))
-            (strand-kept (reversed-once t (p .last) once) (λ u m _. y .others u (λ i. apart u (reversed-in t m) i)) (x .strand))
-            (y .strand);
+            joined-strand k x y p q sound-x sound-y apart (omega (arith, inside end last-in))
+            (strand-kept (back-once sound-x (p .last)) (λ u m _. b .others u (λ i. apart u (back-in sound-x m) i)) (a .strand))
+            (b .strand);
         others = λ u out.
-            getD-set-other (v' .next) end u (behind k p q .first) 0 (λ e. out (subst (λ (a : ℕ). List·Memᴰ a (xs ++ ys)) (sym e) last-in))
-            ∙ y .others u (λ m. out (Memᴰ·append-right xs m))
-            ∙ x .others u (λ m. out (Memᴰ·append-left ys m));
+            getD-set-other (v' .next) end u (behind k p q .first) 0 (λ e. out (subst (λ (i : ℕ). List·Memᴰ i (x .forth ++ y .forth)) (sym e) last-in))
+            ∙ b .others u (λ m. out (Memᴰ·append-right (x .forth) m))
+            ∙ a .others u (λ m. out (Memᴰ·append-left (y .forth) m));
         room = length-set (v' .next) end (behind k p q .first) ∙ rooms;
       }
 
--- what a part that was found is bounded by
+-- what a child that was found is bounded by
 
 pub record Bounded (p : Part) : Type 0 where
-  pub firsts : p .first < 128
   pub lasts : p .last < 128
-  pub few : p .groups < 128
-
-pub record Advanced (bs : List ℕ) (at : ℕ) (w v : Lists) (p : Part) : Type 0 where
   pub smallest : p .least < 128
-  pub longer : at + 8 ≤ p .at
-  pub within : p .at ≤ length bs
-  pub marks : length (v .seen) ≡ length (w .seen)
-  pub links : length (v .next) ≡ length (w .next)
 
-module _ (k : Kind) {bs : List ℕ} {n floor at done : ℕ} {w v : Lists} {p : Part} (small : n ≤ 128) where
-  pub child-bounded : Found ofTree (PlainUnder k) bs n floor at done w v p → p .ok ≡ true → Bounded p × Advanced bs at w v p
-  child-bounded r ok =
-      let (t, may, free, placed) = r .some ok in (
-        record {
-          firsts = omega (arith, free .inside (p .first) (reversed-in t (strand-first (placed .strand))));
-          lasts = omega (arith, free .inside (p .last) (reversed-in t (strand-last (placed .strand))));
-          few = omega (arith, placed .groups, groups-lt t, free .room);
-        },
-        record {
-          smallest = omega (arith, placed .least, free .inside (least t) (in-leaves t (least-in t)));
-          longer = omega (arith, placed .end, length-treeBits t, groups-lt t);
-          within = omega (arith, placed .end, placed .stands .within);
-          marks = ap length (placed .seen) ∙ length-marked (w .seen) (leaves t);
-          links = placed .room;
-        },
-      )
+pub child-bounded : (k : Kind) {bs : List ℕ} {n floor done gone : ℕ} {w v : Lists} {p : Part} → n ≤ 128
+    → Found ofTree (PlainUnder k) bs n floor done gone w v p → p .ok ≡ true → Bounded p
+child-bounded k {p = p} small r ok =
+    let (t, may, free, placed) = r .some ok in
+    record {
+      lasts = omega (arith, free .inside (p .last) (reversed-in t (strand-last (placed .strand))));
+      smallest = omega (arith, placed .least, free .inside (least t) (in-leaves t (least-in t)));
+    }
 
-  pub children-bounded : (c : ℕ) → Found (ofForest k) (PlainChildren k c) bs n floor at done w v p → p .ok ≡ true → Bounded p
-  children-bounded c r ok =
-      let (f, may, free, placed) = r .some ok in
+-- no c + 1 children stand there
+abbrev NoneFrom : Kind → ℕ → List ℕ → (n floor done gone : ℕ) → List ℕ → Type 0
+NoneFrom k c bs n floor done gone seen =
+    (f : Forest) → PlainChildren k c f → Free n floor done gone seen (ofForest k f) → At bs (place done gone) (forestBits f) → ⊥
+
+module _ (k : Kind) (bs : List ℕ) (n floor done gone : ℕ) (few : n ≤ 128) (w v : Lists) (p : Part)
+    (child : Found ofTree (PlainUnder k) bs n floor done gone w v p) where
+  -- as no child does
+  none-first : p .ok ≡ false → (c : ℕ) → NoneFrom k c bs n floor done gone (w .seen)
+  unfolding leaves treeBits reversed least groups
+  none-first bad c (last t) may free s = child .none bad t (may .1 .0, (may .1 .1, may .2)) free s
+  none-first bad c (more t f) may free s =
+      child .none bad t (may .1 .0, (may .1 .1, may .2 .0)) (free-left k (ofTree t) (ofForest k f) free) (at-left (treeBits t) (forestBits f) s)
+
+  -- as none do after the child
+  none-after : p .ok ≡ true → (c : ℕ) → NoneFrom k c bs n (floorAfter k (p .least)) (p .done) (p .groups) (v .seen)
+      → NoneFrom k (suc c) bs n floor done gone (w .seen)
+  unfolding leaves treeBits reversed least groups moreChildren
+  none-after ok c none (last t) may free s = omega (arith, may .0)
+  none-after ok c none (more x f) may-x free-x s-x =
+      let (t, _, free-t, placed) = child .some ok in
+      let small-x = free-small few (free-left k (ofTree x) (ofForest k f) free-x) in
+      let same : x ≡ t = one-tree x t small-x (free-small few free-t) (at-left (treeBits x) (forestBits f) s-x) (placed .stands) in
+      let may : PlainChildren k (suc c) (more t f) = subst (λ (y : Tree). PlainChildren k (suc c) (more y f)) same may-x in
+      let free : Free n floor done gone (w .seen) (both k (ofTree t) (ofForest k f)) =
+      subst (λ (y : Tree). Free n floor done gone (w .seen) (both k (ofTree y) (ofForest k f))) same free-x in
+      let s : At bs (place done gone) (treeBits t ++ forestBits f) =
+      subst (λ (y : Tree). At bs (place done gone) (treeBits y ++ forestBits f)) same s-x in
+      let (_, _, canon, leads) = may .1 in
+      let (_, once, apart) = may .2 in
+      none f (omega (arith, may .0), canon, once)
+      (free-right k (ofTree t) (ofForest k f) placed (floorAfter k (p .least)) free (λ u i j. apart u (leaves-in t i) (forestLeaves-in f j))
+      (λ u m. subst (λ (a : ℕ). floorAfter k a ≤ u) (sym (placed .least)) (leads-above k t f leads u m)))
+      (subst (λ (i : ℕ). At bs i (forestBits f)) (sym (placed .end)) (at-right (treeBits t) (forestBits f) s))
+
+-- some children that were read, and the floor under the next
+record Prefix (k : Kind) (bs : List ℕ) (n done gone : ℕ) (w v : Lists) (p : Part) (number floor : ℕ) : Type 0 where
+  forest : Forest
+  trees : moreChildren forest ≡ number
+  canon : CanonForest k forest
+  once : OnceForest forest
+  free : Free n 0 done gone (w .seen) (ofForest k forest)
+  placed : Placed bs done gone w v p (ofForest k forest)
+  ground : floor ≡ floorAfter k (least (lastOf forest))
+
+module _ (k : Kind) (bs : List ℕ) (n done gone : ℕ) (w : Lists) where
+  prefix-first : (v : Lists) (q : Part) → Found ofTree (PlainUnder k) bs n 0 done gone w v q → q .ok ≡ true
+      → Prefix k bs n done gone w v q 1 (floorAfter k (q .least))
+  unfolding leaves treeBits reversed least groups moreChildren
+  prefix-first v q child ok =
+      let (t, may, free, placed) = child .some ok in
       record {
-        firsts = omega (arith, free .inside (p .first) (forest-in k f (strand-first (placed .strand))));
-        lasts = omega (arith, free .inside (p .last) (forest-in k f (strand-last (placed .strand))));
-        few = omega (arith, placed .groups, forest-groups f, free .room);
+        forest = last t;
+        trees = refl;
+        canon = (may .0, may .1 .0);
+        once = may .1 .1;
+        free = free;
+        placed = placed;
+        ground = ap (floorAfter k) (placed .least);
       }
 
-module _ (k : Kind) (bs : List ℕ) (n floor at done : ℕ) (few : n ≤ 128) (w v : Lists) (p : Part)
-    (child : Found ofTree (PlainUnder k) bs n floor at done w v p) where
-  -- no child stands there
-  pub children-none : (c : ℕ) → p .ok ≡ false → Found (ofForest k) (PlainChildren k c) bs n floor at done w v p
-  unfolding leaves treeBits
-  children-none c bad = record { some = λ ok. absurd (clash ok bad); none = λ _. missing }
-    where
-      missing : (f : Forest) → PlainChildren k c f → Free n floor done (w .seen) (forestLeaves f) → At bs at (forestBits f) → ⊥
-      missing (last t) may free s = child .none bad t (may .1 .0, (may .1 .1, may .2)) free s
-      missing (more t f) may free s =
-          child .none bad t (may .1 .0, (may .1 .1, may .2 .0)) (free-left (leaves t) (forestLeaves f) free) (at-left (treeBits t) (forestBits f) s)
+  module _ (v : Lists) (p : Part) (number floor : ℕ) (x : Prefix k bs n done gone w v p number floor) where
+    prefix-more : (v' : Lists) (q : Part) → n ≤ length (w .next) → n ≤ length (w .seen)
+        → Found ofTree (PlainUnder k) bs n floor (p .done) (p .groups) v v' q → q .ok ≡ true
+        → Prefix k bs n done gone w (linkedLists k v' p q) (linkedPart k p q) (suc number) (floorAfter k (q .least))
+    prefix-more v' q next-size seen-size child ok =
+        let (t, may, free-t, placed-t) = child .some ok in
+        let f : Forest = x .forest in
+        let a : Piece = ofForest k f in
+        let b : Piece = ofTree t in
+        let apart = free-apart k a b (x .placed) floor seen-size (x .free) free-t in
+        let free-both = free-join k a b (x .placed) floor seen-size (x .free) free-t (λ u m. omega arith) in
+        let same : ofForest k (snoc f t) ≡ both k a b = piece-snoc k f t in
+        record {
+          forest = snoc f t;
+          trees = snoc-number f t ∙ ap suc (x .trees);
+          canon = canon-snoc k t (may .0) (may .1 .0) f (x .canon) (λ u m. subst (λ (l : ℕ). l ≤ u) (x .ground) (free-t .above u m));
+          once = once-snoc f t (x .once) (may .1 .1) apart;
+          free = subst (Free n 0 done gone (w .seen)) (sym same) free-both;
+          placed =
+              subst (Placed bs done gone w (linkedLists k v' p q) (linkedPart k p q)) (sym same)
+              (joined-placed k bs done gone w v v' a b p q (x .placed) placed-t (sound-forest k f (x .once)) (sound-tree t (may .1 .1)) apart
+              (λ u m. omega (arith, free-both .inside u m)));
+          ground = ap (floorAfter k) (placed-t .least ∙ ap least (sym (snoc-last f t)));
+        }
 
-  -- the last child
-  pub children-last : (c : ℕ) → c ≡ 0 → p .ok ≡ true → Found (ofForest k) (PlainChildren k c) bs n floor at done w v p
-  unfolding leaves treeBits reversed least groups moreChildren
-  children-last c none-left ok = record {
-    some = λ _.
-        let (t, may, free, placed) = child .some ok in
-        (last t, (ap suc (sym none-left), (may .0, may .1 .0), may .1 .1), free, placed);
-    none = λ bad. absurd (clash ok bad);
+    prefix-ready : {bytes : List ℕ} → Ready bytes n done gone (w .seen) (w .next) → Ready bytes n (p .done) (p .groups) (v .seen) (v .next)
+    prefix-ready r = record {
+      short = r .short;
+      few = r .few;
+      named = omega (arith, x .placed .number, x .free .room);
+      opened = omega (arith, x .placed .groups, x .free .fewer);
+      marks = ap length (x .placed .seen) ∙ length-marked (w .seen) (forestLeaves (x .forest)) ∙ r .marks;
+      links = x .placed .room ∙ r .links;
+    }
+
+    prefix-last : n ≤ 128 → p .last < 128
+    prefix-last few = omega (arith, x .free .inside (p .last) (back-in (sound-forest k (x .forest) (x .once)) (strand-last (x .placed .strand))))
+
+-- the loop of a reader: of c + 1 children `left` are to come. The part is not ok before the first
+pub record Run (k : Kind) (bytes : List ℕ) (n c done gone : ℕ) (w : Lists) (left floor : ℕ) (v : Lists) (p : Part) : Type 0 where
+  pub within : left ≤ c + 1
+  pub ready : Ready bytes n (p .done) (p .groups) (v .seen) (v .next)
+  pub onward : (done ≤ p .done) × (gone ≤ p .groups)
+  begun : p .ok ≡ true → Prefix k (bitsOf bytes) n done gone w v p (c + 1 - left) floor
+  unbegun : p .ok ≡ false → (p .done ≡ done) × (p .groups ≡ gone) × (v ≡ w) × (floor ≡ 0) × (left ≡ c + 1)
+  missing : (l : ℕ) → left ≡ suc l → NoneFrom k l (bitsOf bytes) n floor (p .done) (p .groups) (v .seen) → NoneFrom k c (bitsOf bytes) n 0 done gone (w .seen)
+
+module _ (k : Kind) (bytes : List ℕ) (n c done gone : ℕ) (w : Lists) (r : Ready bytes n done gone (w .seen) (w .next)) where
+  pub run-begin : (p : Part) → p ≡ unreadPart done gone → Run k bytes n c done gone w (c + 1) 0 w p
+  run-begin p same = subst (λ (q : Part). Run k bytes n c done gone w (c + 1) 0 w q) (sym same) record {
+    within = omega arith;
+    ready = r;
+    onward = omega arith;
+    begun = λ ok. absurd (clash ok refl);
+    unbegun = λ _. (refl, refl, refl, refl, refl);
+    missing = λ l e none. subst (λ (i : ℕ). NoneFrom k i (bitsOf bytes) n 0 done gone (w .seen)) (omega arith) none;
   }
 
-  module _ (c : ℕ) (more-left : c ≡ 0 → ⊥) (ok : p .ok ≡ true) (v' : Lists) (q : Part)
-      (rest : Found (ofForest k) (PlainChildren k (c - 1)) bs n (floorAfter k (p .least)) (p .at) (p .done) v v' q) where
-    -- the children after it do not stand there
-    pub children-short : q .ok ≡ false → Found (ofForest k) (PlainChildren k c) bs n floor at done w v' q
-    unfolding leaves treeBits moreChildren
-    children-short bad = record { some = λ good. absurd (clash good bad); none = λ _. missing }
-      where
-        missing : (f : Forest) → PlainChildren k c f → Free n floor done (w .seen) (forestLeaves f) → At bs at (forestBits f) → ⊥
-        missing (last t) may free s = more-left (omega (arith, may .0))
-        missing (more x f) may-x free-x s-x =
-            let (t, _, free-t, placed) = child .some ok in
-            let small-x = free-small few (free-left (leaves x) (forestLeaves f) free-x) in
-            let same : x ≡ t = one-tree x t small-x (free-small few free-t) (at-left (treeBits x) (forestBits f) s-x) (placed .stands) in
-            let may : PlainChildren k c (more t f) = subst (λ (y : Tree). PlainChildren k c (more y f)) same may-x in
-            let free : Free n floor done (w .seen) (leaves t ++ forestLeaves f) =
-            subst (λ (y : Tree). Free n floor done (w .seen) (leaves y ++ forestLeaves f)) same free-x in
-            let s : At bs at (treeBits t ++ forestBits f) = subst (λ (y : Tree). At bs at (treeBits y ++ forestBits f)) same s-x in
-            let (_, _, canon, leads) = may .1 in
-            let (_, once, apart) = may .2 in
-            let after : Free n (floorAfter k (p .least)) (done + length (leaves t)) (marked (w .seen) (leaves t)) (forestLeaves f) =
-            free-right (leaves t) (forestLeaves f) (floorAfter k (p .least)) free (λ u i j. apart u (leaves-in t i) (forestLeaves-in f j))
-            (λ u m. subst (λ (a : ℕ). floorAfter k a ≤ u) (sym (placed .least)) (leads-above k t f leads u m)) in
-            let number : moreChildren f ≡ suc (c - 1) = omega (arith, may .0) in
-            rest .none bad f (number, canon, once)
-            (subst (λ (d : ℕ). Free n (floorAfter k (p .least)) d (v .seen) (forestLeaves f)) (sym (placed .number))
-            (subst (λ (m : List ℕ). Free n (floorAfter k (p .least)) (done + length (leaves t)) m (forestLeaves f)) (sym (placed .seen)) after))
-            (subst (λ (i : ℕ). At bs i (forestBits f)) (sym (placed .end)) (at-right (treeBits t) (forestBits f) s))
+  module _ (left floor : ℕ) (v : Lists) (p : Part) (run : Run k bytes n c done gone w left floor v p) where
+    -- all are read
+    pub run-end : left ≡ 0 → Found (ofForest k) (PlainChildren k c) (bitsOf bytes) n 0 done gone w v p
+    run-end e = record {
+      some = λ ok.
+          let x = run .begun ok in
+          (x .forest, (omega (arith, x .trees), x .canon, x .once), x .free, x .placed);
+      none = λ bad. absurd (omega (arith, run .unbegun bad .4));
+    }
 
-    -- a child and those after it
-    pub children-more : (next : List ℕ) (r : Part) → n ≤ length (w .next) → n ≤ length (w .seen) → Ground k floor → q .ok ≡ true
-        → r ≡ linkedPart (front k p q) (behind k p q) (q .at) (q .done)
-        → next ≡ set (v' .next) (front k p q .last) (behind k p q .first)
-        → Found (ofForest k) (PlainChildren k c) bs n floor at done w (record { seen = v' .seen; forward = v' .forward; next = next }) r
-    unfolding leaves treeBits reversed least groups moreChildren
-    children-more next r next-size seen-size ground good same-part same-next =
-        let (t, may, free, placed) = child .some ok in
-        let (f, may-rest, free-rest, placed-rest) = rest .some good in
-        let xs : List ℕ = leaves t in
-        let ys : List ℕ = forestLeaves f in
-        let later : ℕ = floorAfter k (p .least) in
-        let after : Free n later (done + length xs) (marked (w .seen) xs) ys =
-        subst (λ (d : ℕ). Free n later d (marked (w .seen) xs) ys) (placed .number)
-        (subst (λ (m : List ℕ). Free n later (p .done) m ys) (placed .seen) free-rest) in
-        let apart = free-apart xs ys later seen-size free after in
-        let least-at : floor ≤ p .least = omega (arith, placed .least, free .above (least t) (in-leaves t (least-in t))) in
-        let whole : Free n floor done (w .seen) (xs ++ ys) =
-        free-join xs ys later seen-size free after (λ u m. above-floor k floor (p .least) u ground least-at (after .above u m)) in
-        let leads : Leads k t f =
-        above-leads k t f (λ u m. subst (λ (a : ℕ). floorAfter k a ≤ u) (placed .least) (after .above u m)) in
-        let placed-both =
-        joined-placed k bs at done w v v' t f p q placed placed-rest (may .1 .1) (may-rest .2) apart (λ u m. omega (arith, whole .inside u m)) in
-        let number : moreChildren (more t f) ≡ suc c = omega (arith, may-rest .0) in
-        record {
-          some = λ _. (
-            more t f,
-            (
-              number,
-              (may .0, may .1 .0, may-rest .1, leads),
-              (may .1 .1, may-rest .2, λ u i j. apart u (in-leaves t i) (in-forestLeaves f j)),
-            ),
-            whole,
-            subst (λ (l : List ℕ). Placed bs at done w (record { seen = v' .seen; forward = v' .forward; next = l }) r (ofForest k (more t f))) (sym same-next)
-                (subst (λ (z : Part). Placed bs at done w (linkedLists k v' p q) z (ofForest k (more t f))) (sym same-part) placed-both),
-          );
-          none = λ bad. absurd (clash (ap (λ (z : Part). z .ok) same-part) bad);
-        }
+    pub run-last : p .ok ≡ true → p .last < 128
+    run-last ok = prefix-last k (bitsOf bytes) n done gone w v p (c + 1 - left) floor (run .begun ok) (r .few)
+
+    module _ (v' : Lists) (q : Part) (child : Found ofTree (PlainUnder k) (bitsOf bytes) n floor (p .done) (p .groups) v v' q) (some : 0 < left) where
+      one-less : left ≡ suc (left - 1)
+      one-less = omega arith
+
+      -- no child stands there
+      pub run-none : q .ok ≡ false → Found (ofForest k) (PlainChildren k c) (bitsOf bytes) n 0 done gone w v' q
+      run-none bad = record {
+        some = λ ok. absurd (clash ok bad);
+        none = λ _.
+            run .missing (left - 1) one-less
+            (none-first k (bitsOf bytes) n floor (p .done) (p .groups) (r .few) v v' q child bad (left - 1));
+      }
+
+      module _ (ok : q .ok ≡ true) where
+        abbrev after : Lists
+        after = record { seen = v' .seen; forward = v' .forward; next = longerNext k p q (v' .next) }
+
+        child-first : p .ok ≡ false → Prefix k (bitsOf bytes) n done gone w v' q 1 (floorAfter k (q .least))
+        child-first e =
+            let (d, g, l, f, _) = run .unbegun e in
+            let moved = subst (λ (i : Lists). Found ofTree (PlainUnder k) (bitsOf bytes) n floor (p .done) (p .groups) i v' q) l child in
+            let low = subst (λ (i : ℕ). Found ofTree (PlainUnder k) (bitsOf bytes) n i (p .done) (p .groups) w v' q) f moved in
+            let at-done = subst (λ (i : ℕ). Found ofTree (PlainUnder k) (bitsOf bytes) n 0 i (p .groups) w v' q) d low in
+            prefix-first k (bitsOf bytes) n done gone w v' q (subst (λ (i : ℕ). Found ofTree (PlainUnder k) (bitsOf bytes) n 0 done i w v' q) g at-done) ok
+
+        as-longer : (p₁ : Part) (l : List ℕ) (number : ℕ) → longer k p q ≡ p₁ → longerNext k p q (v' .next) ≡ l → number ≡ c + 1 - (left - 1)
+            → Prefix k (bitsOf bytes) n done gone w (record { seen = v' .seen; forward = v' .forward; next = l }) p₁ number (floorAfter k (q .least))
+            → Prefix k (bitsOf bytes) n done gone w after (longer k p q) (c + 1 - (left - 1)) (floorAfter k (q .least))
+        as-longer p₁ l number e f g x =
+            subst (λ (i : ℕ). Prefix k (bitsOf bytes) n done gone w after (longer k p q) i (floorAfter k (q .least))) g
+            (subst (λ (i : Part). Prefix k (bitsOf bytes) n done gone w after i number (floorAfter k (q .least))) (sym e)
+            (subst (λ (i : List ℕ).
+            Prefix k (bitsOf bytes) n done gone w (record { seen = v' .seen; forward = v' .forward; next = i }) p₁ number (floorAfter k (q .least)))
+            (sym f) x))
+
+        extended : Prefix k (bitsOf bytes) n done gone w after (longer k p q) (c + 1 - (left - 1)) (floorAfter k (q .least))
+        extended =
+            ⊎-elim
+            (λ (e : p .ok ≡ true).
+            as-longer _ _ _ (longer-linked k p q e) (next-linked k p q (v' .next) e) (omega (arith, run .within))
+            (prefix-more k (bitsOf bytes) n done gone w v p (c + 1 - left) floor (run .begun e) v' q
+            (omega (arith, r .links, r .few)) (omega (arith, r .marks, r .few)) child ok))
+            (λ (e : p .ok ≡ false).
+            as-longer _ _ _ (longer-first k p q e) (next-first k p q (v' .next) e) (omega (arith, run .unbegun e .4)) (child-first e))
+            (decided (p .ok))
+
+        -- a child more
+        pub run-more : (p′ : Part) (next : List ℕ) → p′ ≡ longer k p q → next ≡ longerNext k p q (v' .next)
+            → Run k bytes n c done gone w (left - 1) (floorAfter k (q .least)) (record { seen = v' .seen; forward = v' .forward; next = next }) p′
+        run-more p′ next same-part same-next =
+            let at : Lists = record { seen = v' .seen; forward = v' .forward; next = next } in
+            let floor′ : ℕ = floorAfter k (q .least) in
+            let number : ℕ = c + 1 - (left - 1) in
+            let x : Prefix k (bitsOf bytes) n done gone w at p′ number floor′ =
+            subst (λ (i : Part). Prefix k (bitsOf bytes) n done gone w at i number floor′) (sym same-part)
+            (subst (λ (l : List ℕ).
+            Prefix k (bitsOf bytes) n done gone w (record { seen = v' .seen; forward = v' .forward; next = l }) (longer k p q) number floor′)
+            (sym same-next) extended) in
+            let dones : p′ .done ≡ q .done = ap (λ (i : Part). i .done) same-part ∙ longer-ends k p q .0 in
+            let groups-same : p′ .groups ≡ q .groups = ap (λ (i : Part). i .groups) same-part ∙ longer-ends k p q .1 in
+            record {
+              within = omega (arith, run .within);
+              ready = prefix-ready k (bitsOf bytes) n done gone w at p′ number floor′ x r;
+              onward = omega (arith, x .placed .number, x .placed .groups);
+              begun = λ _. x;
+              unbegun = λ bad. absurd (clash (ap (λ (i : Part). i .ok) same-part ∙ longer-ends k p q .2 ok) bad);
+              missing = λ l e none.
+                  run .missing (suc l) (omega arith)
+                  (none-after k (bitsOf bytes) n floor (p .done) (p .groups) (r .few) v v' q child ok l
+                  (subst (λ (d : ℕ). NoneFrom k l (bitsOf bytes) n floor′ d (q .groups) (v' .seen)) dones
+                  (subst (λ (g : ℕ). NoneFrom k l (bitsOf bytes) n floor′ (p′ .done) g (v' .seen)) groups-same none)));
+            }

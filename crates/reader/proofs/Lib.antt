@@ -4,6 +4,7 @@ pub mod Filling
 pub mod Inversion
 pub mod Beginnings
 pub mod Strands
+pub mod Pieces
 pub mod Marks
 pub mod Refusals
 pub mod Child

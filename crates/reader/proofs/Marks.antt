@@ -9,9 +9,12 @@ use lib.Dec.{eqb}
 use native.Mathlib.Omega.{arith}
 use lib.ListN.{length, getD, set, length-append, length-set}
 use lib.Seq.{sets, getD-set-same, getD-set-other}
+use Rattle.poset.specs.Tree.{Kind}
 use Rattle.poset.proofs.Laws.{decided, clash, eqb-true, eqb-same}
 use Rattle.record.proofs.Sizes.{Small}
-use Rattle.reader.specs.Parts.{marked, Free}
+use Rattle.reader.specs.Parts.{Piece, Lists, marked, Free, Placed}
+use Rattle.reader.specs.declared.parts.Part.{Part}
+use Rattle.reader.proofs.Pieces.{both}
 
 pub length-marked : (s js : List ℕ) → length (marked s js) ≡ length s
 length-marked s [] = refl
@@ -27,7 +30,7 @@ sets-append l i (x ∷ xs) ys =
     let e : suc i + length xs ≡ i + suc (length xs) = omega arith in
     sets-append (set l i x) (suc i) xs ys ∙ ap (λ (j : ℕ). sets (sets (set l i x) (suc i) xs) j ys) e
 
-pub marked-other : (s js : List ℕ) (u : ℕ) → (List·Memᴰ u js → ⊥) → getD (marked s js) u 0 ≡ getD s u 0
+marked-other : (s js : List ℕ) (u : ℕ) → (List·Memᴰ u js → ⊥) → getD (marked s js) u 0 ≡ getD s u 0
 marked-other s [] u h = refl
 marked-other s (j ∷ js) u h =
     marked-other (set s j 1) js u (λ m. h (List·Memᴰ·tail m)) ∙ getD-set-other s j u 1 0 (λ e. h (List·Memᴰ·head e))
@@ -41,7 +44,7 @@ marked-kept s (j ∷ js) u l h =
     (λ (e : eqb u j ≡ false). getD-set-other s j u 1 0 (λ q. clash (ap (eqb u) (sym q) ∙ eqb-same u) e) ∙ h)
     (decided (eqb u j)))
 
-pub marked-in : (s js : List ℕ) (u : ℕ) → u < length s → List·Memᴰ u js → getD (marked s js) u 0 ≡ 1
+marked-in : (s js : List ℕ) (u : ℕ) → u < length s → List·Memᴰ u js → getD (marked s js) u 0 ≡ 1
 marked-in s [] u l m = absurd (List·Memᴰ·not-nil m)
 marked-in s (j ∷ js) u l m =
     let l′ : u < length (set s j 1) = subst (λ (k : ℕ). u < k) (sym (length-set s j 1)) l in
@@ -52,36 +55,53 @@ marked-in s (j ∷ js) u l m =
 
 -- the jobs of a part, and of what follows it
 
-module _ {n floor done : ℕ} {s : List ℕ} (xs ys : List ℕ) where
-  pub free-left : Free n floor done s (xs ++ ys) → Free n floor done s xs
+module _ {n floor done gone : ℕ} {s : List ℕ} (k : Kind) (x y : Piece) where
+  pub free-left : Free n floor done gone s (both k x y) → Free n floor done gone s x
   free-left f = record {
-    inside = λ u m. f .inside u (Memᴰ·append-left ys m);
-    above = λ u m. f .above u (Memᴰ·append-left ys m);
-    unseen = λ u m. f .unseen u (Memᴰ·append-left ys m);
-    room = omega (arith, f .room, length-append xs ys);
+    inside = λ u m. f .inside u (Memᴰ·append-left (y .forth) m);
+    above = λ u m. f .above u (Memᴰ·append-left (y .forth) m);
+    unseen = λ u m. f .unseen u (Memᴰ·append-left (y .forth) m);
+    room = omega (arith, f .room, length-append (x .forth) (y .forth));
+    fewer = omega (arith, f .fewer);
   }
 
-  pub free-right : (later : ℕ) → Free n floor done s (xs ++ ys) → ((u : ℕ) → List·Memᴰ u xs → List·Memᴰ u ys → ⊥)
-      → ((u : ℕ) → List·Memᴰ u ys → later ≤ u) → Free n later (done + length xs) (marked s xs) ys
+module _ {bs : List ℕ} {n floor done gone : ℕ} {w v : Lists} {p : Part} (k : Kind) (x y : Piece) (placed : Placed bs done gone w v p x) where
+  pub free-right : (later : ℕ) → Free n floor done gone (w .seen) (both k x y) → ((u : ℕ) → List·Memᴰ u (x .forth) → List·Memᴰ u (y .forth) → ⊥)
+      → ((u : ℕ) → List·Memᴰ u (y .forth) → later ≤ u) → Free n later (p .done) (p .groups) (v .seen) y
   free-right later f apart above = record {
-    inside = λ u m. f .inside u (Memᴰ·append-right xs m);
+    inside = λ u m. f .inside u (Memᴰ·append-right (x .forth) m);
     above = above;
-    unseen = λ u m. marked-other s xs u (λ i. apart u i m) ∙ f .unseen u (Memᴰ·append-right xs m);
-    room = omega (arith, f .room, length-append xs ys);
+    unseen = λ u m.
+        ap (λ (s : List ℕ). getD s u 0) (placed .seen)
+        ∙ marked-other (w .seen) (x .forth) u (λ i. apart u i m)
+        ∙ f .unseen u (Memᴰ·append-right (x .forth) m);
+    room = omega (arith, f .room, length-append (x .forth) (y .forth), placed .number);
+    fewer = omega (arith, f .fewer, placed .groups);
   }
 
-  module _ (later : ℕ) (small : n ≤ length s) (f : Free n floor done s xs) (g : Free n later (done + length xs) (marked s xs) ys) where
-    pub free-apart : (u : ℕ) → List·Memᴰ u xs → List·Memᴰ u ys → ⊥
-    free-apart u p q = omega (arith, marked-in s xs u (omega (arith, f .inside u p)) p, g .unseen u q)
+  module _ (later : ℕ) (small : n ≤ length (w .seen)) (f : Free n floor done gone (w .seen) x) (g : Free n later (p .done) (p .groups) (v .seen) y) where
+    pub free-apart : (u : ℕ) → List·Memᴰ u (x .forth) → List·Memᴰ u (y .forth) → ⊥
+    free-apart u i j =
+        omega (
+          arith,
+          ap (λ (s : List ℕ). getD s u 0) (placed .seen) ∙ marked-in (w .seen) (x .forth) u (omega (arith, f .inside u i)) i,
+          g .unseen u j,
+        )
 
-    pub free-join : ((u : ℕ) → List·Memᴰ u ys → floor ≤ u) → Free n floor done s (xs ++ ys)
+    pub free-join : ((u : ℕ) → List·Memᴰ u (y .forth) → floor ≤ u) → Free n floor done gone (w .seen) (both k x y)
     free-join above = record {
-      inside = λ u m. ⊎-elim (λ p. f .inside u p) (λ q. g .inside u q) (List·Memᴰ·append-cases xs m);
-      above = λ u m. ⊎-elim (λ p. f .above u p) (λ q. above u q) (List·Memᴰ·append-cases xs m);
+      inside = λ u m. ⊎-elim (λ i. f .inside u i) (λ j. g .inside u j) (List·Memᴰ·append-cases (x .forth) m);
+      above = λ u m. ⊎-elim (λ i. f .above u i) (λ j. above u j) (List·Memᴰ·append-cases (x .forth) m);
       unseen = λ u m.
-          ⊎-elim (λ p. f .unseen u p) (λ q. sym (marked-other s xs u (λ p. free-apart u p q)) ∙ g .unseen u q) (List·Memᴰ·append-cases xs m);
-      room = omega (arith, g .room, length-append xs ys);
+          ⊎-elim
+          (λ i. f .unseen u i)
+          (λ j.
+          sym (ap (λ (s : List ℕ). getD s u 0) (placed .seen) ∙ marked-other (w .seen) (x .forth) u (λ i. free-apart u i j))
+          ∙ g .unseen u j)
+          (List·Memᴰ·append-cases (x .forth) m);
+      room = omega (arith, g .room, length-append (x .forth) (y .forth), placed .number);
+      fewer = omega (arith, g .fewer, placed .groups);
     }
 
-pub free-small : {n floor done : ℕ} {s js : List ℕ} → n ≤ 128 → Free n floor done s js → Small js
+pub free-small : {n floor done gone : ℕ} {s : List ℕ} {x : Piece} → n ≤ 128 → Free n floor done gone s x → Small (x .forth)
 free-small l f = (λ u m. omega (arith, f .inside u m), omega (arith, f .room))

@@ -7,18 +7,18 @@ use native.Mathlib.Omega.{arith}
 use lib.ListN.{length, take, replicate, length-append, length-replicate}
 use lib.Seq.{take-at}
 use Rattle.poset.specs.Areas.{padded}
-use Rattle.poset.specs.Lists.{aheadIn}
+use Rattle.poset.specs.Lists.{occurrences, aheadIn}
 use Rattle.poset.specs.Order.{Rel, Strict}
 use Rattle.poset.specs.Tree.{Tree, leaves, reversed, precedes, Spans, Means}
 use Rattle.poset.proofs.Laws.{same-test, and-left, and-right, and-intro}
 use Rattle.poset.proofs.Ahead.{ahead-mem}
 use Rattle.poset.proofs.Shape.{precedes-in}
-use Rattle.poset.proofs.Meaning.{spans-holds}
+use Rattle.poset.proofs.Meaning.{once-count, spans-holds}
+use Rattle.poset.proofs.Realizer.{reversed-count}
 use Rattle.poset.proofs.Theorems.{realizer, tree-is-strict}
 use Rattle.relation.specs.Table.{holds, Inside}
 use Rattle.record.specs.Bits.{AllBelow}
 use Rattle.record.proofs.Sizes.{leaves-below, length-leaves}
-use Rattle.reader.proofs.Children.{reversed-in}
 use Rattle.reader.proofs.Sequences.{length-reversed}
 use Rattle.reader.proofs.Later.{ahead-first}
 
@@ -54,7 +54,9 @@ module _ (n : ℕ) (t : Tree) (spans : Spans n t) where
     first-reverse = ap (take n) back ∙ take-at (reversed t) _ n (length-reversed t ∙ length-leaves n t spans)
 
     -- so they are such as `order_of` asks for
-    pub order-ready : n ≤ 128 → ((n ≤ 128) × (length forward ≡ 128) × (length reverse ≡ 128)) × (AllBelow 128 (take n forward) × AllBelow 128 (take n reverse))
+    pub order-ready : n ≤ 128 → ((n ≤ 128) × (length forward ≡ 128) × (length reverse ≡ 128))
+        × (AllBelow 128 (take n forward) × ((u : ℕ) → occurrences u (take n forward) ≤ 1)
+        × ((u : ℕ) → occurrences u (take n reverse) ≡ occurrences u (take n forward)))
     order-ready few = (
       (
         few,
@@ -63,7 +65,8 @@ module _ (n : ℕ) (t : Tree) (spans : Spans n t) where
       ),
       (
         subst (AllBelow 128) (sym first-forward) (λ u m. omega (arith, leaves-below n t spans u m)),
-        subst (AllBelow 128) (sym first-reverse) (λ u m. omega (arith, leaves-below n t spans u (reversed-in t m))),
+        λ u. subst (λ (l : List ℕ). occurrences u l ≤ 1) (sym first-forward) (once-count t (spans-holds n t spans .0) u),
+        λ u. ap (occurrences u) first-reverse ∙ reversed-count t u ∙ ap (occurrences u) (sym first-forward),
       ),
     )
 

@@ -8,8 +8,7 @@ use lib.ListN.{length, drop, replicate, length-append}
 use lib.Seq.{sets, sets-eq}
 use Rattle.poset.specs.Tree.{Kind, series, parallel, Tree, leaf, node, Forest, last, more, leaves, forestLeaves, joined, reversed, forestReversed}
 use Rattle.record.specs.Bits.{AllBelow}
-use Rattle.reader.specs.Parts.{Lists, Free, Placed, ofTree}
-use Rattle.reader.specs.Answer.{walk}
+use Rattle.reader.specs.Parts.{Lists, walk, Free, Placed, ofTree}
 use Rattle.poset.specs.Areas.{padded}
 use Rattle.reader.specs.declared.parts.Part.{Part}
 use Rattle.reader.proofs.Children.{reversed-in}
@@ -51,8 +50,8 @@ mutual
       ∙ ap₂ _+_ (length-reversed t) (length-forestReversed k f)
       ∙ sym (length-append (leaves t) (forestLeaves f))
 
-module _ {bs : List ℕ} {n at : ℕ} {w v : Lists} {p : Part} (t : Tree) (few : n ≤ 128) (all : p .done ≡ n) (free : Free n 0 0 (w .seen) (leaves t))
-    (placed : Placed bs at 0 w v p (ofTree t)) where
+module _ {bs : List ℕ} {n : ℕ} {w v : Lists} {p : Part} (t : Tree) (few : n ≤ 128) (all : p .done ≡ n) (free : Free n 0 0 0 (w .seen) (ofTree t))
+    (placed : Placed bs 0 0 w v p (ofTree t)) where
   pub forward-leaves : w .forward ≡ replicate 128 0 → v .forward ≡ padded (leaves t)
   forward-leaves e =
       placed .forward ∙ ap (λ (l : List ℕ). sets l 0 (leaves t)) e ∙ sets-zeros (leaves t) (omega (arith, free .room))

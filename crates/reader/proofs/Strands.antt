@@ -8,23 +8,19 @@ use lib.Dec.{eqb}
 use native.Mathlib.Omega.{arith}
 use lib.ListN.{length, getD, set}
 use lib.Seq.{getD-set-same, getD-set-other}
-use Rattle.poset.specs.Lists.{count}
+use Rattle.poset.specs.Lists.{occurrences}
 use Rattle.poset.proofs.Laws.{decided, clash, eqb-true, eqb-same, count-same, count-other, mem-count}
 use Rattle.reader.specs.Parts.{Strand, alone, followed}
 
-pub strand-join : {next xs ys : List ℕ} {a b d : ℕ} → Strand next a xs b → Strand next (getD next b 0) ys d → Strand next a (xs ++ ys) d
+strand-join : {next xs ys : List ℕ} {a b d : ℕ} → Strand next a xs b → Strand next (getD next b 0) ys d → Strand next a (xs ++ ys) d
 strand-join (alone a) q = followed a q
 strand-join (followed a p) q = followed a (strand-join p q)
-
-pub strand-first : {next xs : List ℕ} {a b : ℕ} → Strand next a xs b → List·Memᴰ a xs
-strand-first (alone a) = List·Memᴰ·head refl
-strand-first (followed a p) = List·Memᴰ·head refl
 
 pub strand-last : {next xs : List ℕ} {a b : ℕ} → Strand next a xs b → List·Memᴰ b xs
 strand-last (alone a) = List·Memᴰ·head refl
 strand-last (followed a p) = List·Memᴰ·tail (strand-last p)
 
-count-tail : (u x : ℕ) (xs : List ℕ) → count u xs ≤ count u (x ∷ xs)
+count-tail : (u x : ℕ) (xs : List ℕ) → occurrences u xs ≤ occurrences u (x ∷ xs)
 count-tail u x xs =
     ⊎-elim
     (λ (e : eqb u x ≡ true). omega (arith, count-same u x xs (eqb-true u x e)))
@@ -32,7 +28,7 @@ count-tail u x xs =
     (decided (eqb u x))
 
 -- a sequence rests on what follows its jobs but the last
-pub strand-kept : {next other xs : List ℕ} {a b : ℕ} → count b xs ≤ 1
+pub strand-kept : {next other xs : List ℕ} {a b : ℕ} → occurrences b xs ≤ 1
     → ((u : ℕ) → List·Memᴰ u xs → (u ≡ b → ⊥) → getD other u 0 ≡ getD next u 0) → Strand next a xs b → Strand other a xs b
 strand-kept h e (alone a) = alone a
 strand-kept {next} {other} {b = b} h e (followed a {ys} p) =
@@ -42,7 +38,7 @@ strand-kept {next} {other} {b = b} h e (followed a {ys} p) =
     followed a (subst (λ (c : ℕ). Strand other c ys b) (sym same) rest)
 
 -- the last job of one sequence followed by the first of another
-pub strand-link : {next xs ys : List ℕ} {a b c d : ℕ} → count b xs ≤ 1 → count d ys ≤ 1 → (List·Memᴰ b ys → ⊥) → b < length next
+pub strand-link : {next xs ys : List ℕ} {a b c d : ℕ} → occurrences b xs ≤ 1 → occurrences d ys ≤ 1 → (List·Memᴰ b ys → ⊥) → b < length next
     → Strand next a xs b → Strand next c ys d → Strand (set next b c) a (xs ++ ys) d
 strand-link {next} {xs} {ys} {a} {b} {c} {d} once once′ apart inside p q =
     strand-join

@@ -1,13 +1,13 @@
 -- A record as a whole: the job count, the tree, and the bits left over.
 use Prim.Native.Nat.{ℕ, suc, _+_, _-_, _*_, _≤_, _<_}
-use mathlib.Core.Path.{_≡_, refl, sym, ap, ap₂, subst, _∙_}
+use mathlib.Core.Path.{_≡_, sym, ap, ap₂, subst, _∙_}
 use mathlib.Core.List.{List, _++_, List·Memᴰ·head, List·Memᴰ·tail}
 use mathlib.Core.Bool.{true, false}
-use mathlib.Core.Option.{Option, none, some}
+use mathlib.Core.Option.{none}
 use native.Mathlib.Omega.{arith}
 use lib.ListN.{length, getD, drop, replicate, length-append, getD-replicate}
 use lib.Seq.{drop-at}
-use Rattle.poset.specs.Tree.{Tree, leaves, groups}
+use Rattle.poset.specs.Tree.{Tree, leaves, reversed, groups}
 use Rattle.poset.proofs.Laws.{clash}
 use Rattle.poset.proofs.Canonical.{canon, canon-canonical}
 use Rattle.poset.proofs.Meaning.{spans-holds}
@@ -16,13 +16,13 @@ use Rattle.record.specs.Layout.{treeBits, IsRecord}
 use Rattle.record.specs.Decode.{decode, fills}
 use Rattle.record.proofs.Fields.{length-bits}
 use Rattle.record.proofs.Bytes.{Filled, length-bitsOf, filled-unique}
-use Rattle.record.proofs.Sizes.{leaves-below, length-leaves, length-spans}
+use Rattle.record.proofs.Sizes.{leaves-below, length-leaves, length-spans, groups-lt}
 use Rattle.record.proofs.Tests.{fills-zeros, zeros-fill}
 use Rattle.record.proofs.Records.{layout-filled}
 use Rattle.record.proofs.Theorems.{decode-record, decode-none, layout-length}
 use Rattle.reader.specs.Fields.{At, FieldAt}
-use Rattle.reader.specs.Parts.{Lists, Free, Found, Plain, ofTree}
-use Rattle.reader.specs.Answer.{reading, Reads, walk}
+use Rattle.reader.specs.Parts.{Lists, walk, place, Free, Found, Plain, ofTree}
+use Rattle.reader.specs.Answer.{reading}
 use Rattle.poset.specs.Areas.{padded}
 use Rattle.reader.specs.declared.parts.Part.{Part}
 use Rattle.reader.specs.declared.Reading.{Reading}
@@ -70,7 +70,7 @@ none-long bytes l n t r = omega (arith, ap length (r .spelt), layout-length n t 
 
 -- a count, and the tree after it, if one was read
 module _ (bytes : List ℕ) (m : ℕ) (count : FieldAt (bitsOf bytes) 0 7 m) (forward next : List ℕ) (v : Lists) (p : Part)
-    (r : Found ofTree Plain (bitsOf bytes) (m + 1) 0 7 0 (record { seen = replicate 128 0; forward = forward; next = next }) v p) where
+    (r : Found ofTree Plain (bitsOf bytes) (m + 1) 0 0 0 (record { seen = replicate 128 0; forward = forward; next = next }) v p) where
   few : m + 1 ≤ 128
   few = let small : m < 128 = count .small in omega arith
 
@@ -84,12 +84,13 @@ module _ (bytes : List ℕ) (m : ℕ) (count : FieldAt (bitsOf bytes) 0 7 m) (fo
         at-same (bits 7 (n - 1)) (bits 7 m) (length-bits 7 (n - 1) ∙ sym (length-bits 7 m)) (spelt .count-at) (count .stands) in
         omega (arith, bits-injective 7 (n - 1) m (omega (arith, q .most)) (count .small) same, q .least)
 
-    free : Free (m + 1) 0 0 (replicate 128 0) (leaves t)
+    free : Free (m + 1) 0 0 0 (replicate 128 0) (ofTree t)
     free = record {
       inside = λ u i. omega (arith, same-count, leaves-below n t (q .spans) u i);
       above = λ u i. omega arith;
       unseen = λ u i. getD-replicate 128 u 0 0 (omega (arith, q .most, leaves-below n t (q .spans) u i));
       room = omega (arith, same-count, length-leaves n t (q .spans));
+      fewer = omega (arith, same-count, length-leaves n t (q .spans), groups-lt t);
     }
 
     -- so what was read is the record's tree
@@ -106,22 +107,23 @@ module _ (bytes : List ℕ) (m : ℕ) (count : FieldAt (bitsOf bytes) 0 7 m) (fo
       let same : length (leaves (r .some ok .0)) ≡ length (leaves t) = ap (λ (s : Tree). length (leaves s)) (read-same n t q ok) in
       fewer (omega (arith, r .some ok .3 .number, length-leaves n t (q .spans), same-count n t q))
 
-  pub none-filled : p .ok ≡ true → fills (drop (p .at) (bitsOf bytes)) ≡ false → (n : ℕ) (t : Tree) → IsRecord bytes n t → ⊥
+  pub none-filled : p .ok ≡ true → fills (drop (place (p .done) (p .groups)) (bitsOf bytes)) ≡ false → (n : ℕ) (t : Tree) → IsRecord bytes n t → ⊥
   none-filled ok bad n t q =
-      let end : p .at ≡ 7 + length (treeBits t) = r .some ok .3 .end ∙ ap (λ (s : Tree). 7 + length (treeBits s)) (read-same n t q ok) in
+      let end : place (p .done) (p .groups) ≡ 7 + length (treeBits t) =
+      r .some ok .3 .end ∙ ap (λ (s : Tree). 7 + length (treeBits s)) (read-same n t q ok) in
       clash (ap (λ (i : ℕ). fills (drop i (bitsOf bytes))) end ∙ spelt n t q .rest) bad
 
-  pub read-whole : AllBelow 256 bytes → (ok : p .ok ≡ true) → p .done ≡ m + 1 → fills (drop (p .at) (bitsOf bytes)) ≡ true
+  pub read-whole : AllBelow 256 bytes → (ok : p .ok ≡ true) → p .done ≡ m + 1 → fills (drop (place (p .done) (p .groups)) (bitsOf bytes)) ≡ true
       → IsRecord bytes (m + 1) (r .some ok .0)
   read-whole small ok all filled =
       let (t, plain, free-t, placed) = r .some ok in
-      let rest : List ℕ = drop (p .at) (bitsOf bytes) in
+      let rest : List ℕ = drop (place (p .done) (p .groups)) (bitsOf bytes) in
       let (spare, zeros) = zeros-fill rest filled in
       let head : List ℕ = bits 7 m in
       let size : 7 ≡ 0 + length head = omega (arith, length-bits 7 m) in
       let both : At (bitsOf bytes) 0 (head ++ treeBits t) =
       at-join head (treeBits t) (count .stands) (subst (λ (i : ℕ). At (bitsOf bytes) i (treeBits t)) size (placed .stands)) in
-      let end : 0 + length (head ++ treeBits t) ≡ p .at = omega (arith, length-append head (treeBits t), placed .end) in
+      let end : 0 + length (head ++ treeBits t) ≡ place (p .done) (p .groups) = omega (arith, length-append head (treeBits t), placed .end) in
       let less : m ≡ m + 1 - 1 = omega arith in
       let as-filled : Filled (bits 7 (m + 1 - 1) ++ treeBits t) bytes = record {
         fill = length rest;
@@ -139,7 +141,7 @@ module _ (bytes : List ℕ) (m : ℕ) (count : FieldAt (bitsOf bytes) 0 7 m) (fo
         spelt = filled-unique (layout-filled (m + 1) t) as-filled;
       }
 
-  pub tree-within : p .ok ≡ true → p .at ≤ 8 * length bytes
+  pub tree-within : p .ok ≡ true → place (p .done) (p .groups) ≤ 8 * length bytes
   tree-within ok = omega (arith, r .some ok .3 .end, r .some ok .3 .stands .within, length-bitsOf bytes)
 
   -- the reverse sequence is walked within the lists
@@ -147,21 +149,19 @@ module _ (bytes : List ℕ) (m : ℕ) (count : FieldAt (bitsOf bytes) 0 7 m) (fo
   walk-inside ok all = let (t, _, free-t, placed) = r .some ok in (few, walk-below t few all free-t placed)
 
   -- what reading gives
-  pub reads-some : AllBelow 256 bytes → forward ≡ replicate 128 0 → p .ok ≡ true → p .done ≡ m + 1 → fills (drop (p .at) (bitsOf bytes)) ≡ true
+  pub reads-some : AllBelow 256 bytes → forward ≡ replicate 128 0 → p .ok ≡ true → p .done ≡ m + 1
+      → fills (drop (place (p .done) (p .groups)) (bitsOf bytes)) ≡ true
       → (reverse : List ℕ) → reverse ≡ padded (walk (v .next) (m + 1) (p .first))
-      → Reads (record { ok = true; count = m + 1; groups = p .groups; forward = v .forward; reverse = reverse }) (reading (decode bytes))
+      → record { ok = true; count = m + 1; groups = p .groups; forward = v .forward; reverse = reverse } ≡ reading (decode bytes)
   reads-some small zeros ok all filled reverse e =
       let (t, _, free-t, placed) = r .some ok in
-      let x : Reading = record { ok = true; count = m + 1; groups = p .groups; forward = v .forward; reverse = reverse } in
-      let given : Reads x (reading (some (m + 1, t))) = record {
-        ok = refl;
-        count = refl;
-        groups = placed .groups;
-        forward = forward-leaves t few all free-t placed zeros;
-        reverse = e ∙ ap padded (walk-reversed t few all free-t placed);
-      } in
-      subst (λ (o : Option (ℕ × Tree)). Reads x (reading o)) (sym (decode-record bytes (m + 1) t small .1 (read-whole small ok all filled))) given
+      let made : (g : ℕ) (f b : List ℕ) → Reading = λ g f b. record { ok = true; count = m + 1; groups = g; forward = f; reverse = b } in
+      let back : reverse ≡ padded (reversed t) = e ∙ ap padded (walk-reversed t few all free-t placed) in
+      let groups-are : p .groups ≡ groups t = omega (arith, placed .groups) in
+      ap (λ (g : ℕ). made g (v .forward) reverse) groups-are
+      ∙ ap₂ (made (groups t)) (forward-leaves t few all free-t placed zeros) back
+      ∙ ap reading (sym (decode-record bytes (m + 1) t small .1 (read-whole small ok all filled)))
 
-pub reads-none : (bytes : List ℕ) (x : Reading) → AllBelow 256 bytes → ((n : ℕ) (t : Tree) → IsRecord bytes n t → ⊥) → Reads x (reading none)
-    → Reads x (reading (decode bytes))
-reads-none bytes x small h r = subst (λ (o : Option (ℕ × Tree)). Reads x (reading o)) (sym (decode-none bytes small .1 h)) r
+pub reads-none : (bytes : List ℕ) (x : Reading) → AllBelow 256 bytes → ((n : ℕ) (t : Tree) → IsRecord bytes n t → ⊥) → x ≡ reading none
+    → x ≡ reading (decode bytes)
+reads-none bytes x small h r = r ∙ ap reading (sym (decode-none bytes small .1 h))

@@ -1,5 +1,6 @@
 -- Bits by position.
--- An inner contract: who reads the promise of read_record need not believe it, but specs/Answer.antt alone.
+-- For inner contracts alone: who reads the promises of read_record and order_of need not believe it, but specs/Answer.antt. So it may cite
+-- Small, which is the proofs' form of leaves that fit a record.
 use Prim.Native.Nat.{ℕ, suc, _+_, _≤_, _<_, _^_}
 use mathlib.Core.Path.{_≡_}
 use mathlib.Core.List.{List, _∷_, _++_}

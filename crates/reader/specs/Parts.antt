@@ -1,12 +1,14 @@
 -- What the readers of a record's parts owe: of a tree, and of the children of a group.
--- An inner contract: who reads the promise of read_record need not believe it, but specs/Answer.antt alone.
-use Prim.Native.Nat.{ℕ, suc, _+_, _≤_, _<_, min}
+-- For inner contracts alone: who reads the promises of read_record and order_of need not believe it, but specs/Answer.antt. So it may cite
+-- Once and Canon, which are the proofs' form of what poset's specs/ say by a count and a test.
+use Prim.Native.Nat.{ℕ, zero, suc, _+_, _*_, _≤_, _<_, min}
 use mathlib.Core.Path.{_≡_}
 use mathlib.Core.List.{List, [], _∷_, List·Memᴰ}
 use mathlib.Core.Bool.{true, false}
 use lib.ListN.{length, getD, set}
 use lib.Seq.{sets}
-use Rattle.poset.specs.Tree.{Kind, Tree, Forest, leaves, forestLeaves, reversed, forestReversed, least, forestLeast, groups, forestGroups, alternates}
+use Rattle.poset.specs.Tree.{Kind, series, parallel, Tree, Forest, alternates}
+use Rattle.poset.specs.Tree.{leaves, forestLeaves, reversed, forestReversed, least, forestLeast, groups, forestGroups}
 use Rattle.poset.proofs.Shape.{Once, OnceForest}
 use Rattle.poset.proofs.Canonical.{Canon, CanonForest}
 use Rattle.record.specs.Layout.{moreChildren, treeBits, forestBits}
@@ -43,27 +45,38 @@ pub data Strand (next : List ℕ) : ℕ → List ℕ → ℕ → Type 0 where
   alone : (a : ℕ) → Strand next a (a ∷ []) a
   followed : (a : ℕ) {ys : List ℕ} {b : ℕ} → Strand next (getD next a 0) ys b → Strand next a (a ∷ ys) b
 
--- what a reader is given: at most as many bytes and jobs as a record has, a position in them, and lists for 128 jobs
-pub record Ready (bytes : List ℕ) (n at : ℕ) (seen next : List ℕ) : Type 0 where
+-- k jobs from x on, each followed by its next
+unfoldable pub walk : List ℕ → ℕ → ℕ → List ℕ
+walk next zero x = []
+walk next (suc k) x = x ∷ walk next k (getD next x 0)
+
+-- where a node begins: after the job count, the leaves and the groups ahead of it
+abbrev pub place : ℕ → ℕ → ℕ
+place done gone = 7 + 8 * done + 9 * gone
+
+-- what a reader is given: at most as many bytes and jobs as a record has, fewer groups than jobs, and lists for 128 jobs
+pub record Ready (bytes : List ℕ) (n done gone : ℕ) (seen next : List ℕ) : Type 0 where
   pub short : length bytes ≤ 272
   pub few : n ≤ 128
-  pub start : at ≤ 2176
+  pub named : done ≤ n
+  pub opened : gone < n
   pub marks : length seen ≡ 128
   pub links : length next ≡ 128
 
--- the jobs are below n, none is below the floor or marked, and with those named so far they are at most n
-pub record Free (n floor done : ℕ) (seen js : List ℕ) : Type 0 where
-  pub inside : (u : ℕ) → List·Memᴰ u js → u < n
-  pub above : (u : ℕ) → List·Memᴰ u js → floor ≤ u
-  pub unseen : (u : ℕ) → List·Memᴰ u js → getD seen u 0 ≡ 0
-  pub room : done + length js ≤ n
+-- the jobs are below n, none is below the floor or marked; with those named so far they are at most n, and the groups fewer than n
+pub record Free (n floor done gone : ℕ) (seen : List ℕ) (x : Piece) : Type 0 where
+  pub inside : (u : ℕ) → List·Memᴰ u (x .forth) → u < n
+  pub above : (u : ℕ) → List·Memᴰ u (x .forth) → floor ≤ u
+  pub unseen : (u : ℕ) → List·Memᴰ u (x .forth) → getD seen u 0 ≡ 0
+  pub room : done + length (x .forth) ≤ n
+  pub fewer : gone + x .inner < n
 
 -- the piece stands in the bits, and the part and the lists v, which were w, are those of it
-pub record Placed (bs : List ℕ) (at done : ℕ) (w v : Lists) (p : Part) (x : Piece) : Type 0 where
-  pub stands : At bs at (x .spelt)
-  pub end : p .at ≡ at + length (x .spelt)
+pub record Placed (bs : List ℕ) (done gone : ℕ) (w v : Lists) (p : Part) (x : Piece) : Type 0 where
+  pub stands : At bs (place done gone) (x .spelt)
+  pub end : place (p .done) (p .groups) ≡ place done gone + length (x .spelt)
   pub number : p .done ≡ done + length (x .forth)
-  pub groups : p .groups ≡ x .inner
+  pub groups : p .groups ≡ gone + x .inner
   pub least : p .least ≡ x .smallest
   pub seen : v .seen ≡ marked (w .seen) (x .forth)
   pub forward : v .forward ≡ sets (w .forward) done (x .forth)
@@ -72,9 +85,9 @@ pub record Placed (bs : List ℕ) (at done : ℕ) (w v : Lists) (p : Part) (x : 
   pub room : length (v .next) ≡ length (w .next)
 
 -- a reader found the one x that may stand there and does, or there is none
-pub record Found {X : Type 0} (piece : X → Piece) (May : X → Type 0) (bs : List ℕ) (n floor at done : ℕ) (w v : Lists) (p : Part) : Type 0 where
-  pub some : p .ok ≡ true → (x : X) × May x × Free n floor done (w .seen) (piece x .forth) × Placed bs at done w v p (piece x)
-  pub none : p .ok ≡ false → (x : X) → May x → Free n floor done (w .seen) (piece x .forth) → At bs at (piece x .spelt) → ⊥
+pub record Found {X : Type 0} (piece : X → Piece) (May : X → Type 0) (bs : List ℕ) (n floor done gone : ℕ) (w v : Lists) (p : Part) : Type 0 where
+  pub some : p .ok ≡ true → (x : X) × May x × Free n floor done gone (w .seen) (piece x) × Placed bs done gone w v p (piece x)
+  pub none : p .ok ≡ false → (x : X) → May x → Free n floor done gone (w .seen) (piece x) → At bs (place done gone) (piece x .spelt) → ⊥
 
 -- any tree in canonical form, and one that may stand in a group of kind k
 abbrev pub Plain : Tree → Type 0
@@ -87,62 +100,74 @@ PlainUnder k t = (alternates k t ≡ true) × Plain t
 abbrev pub PlainChildren : Kind → ℕ → Forest → Type 0
 PlainChildren k c f = (moreChildren f ≡ suc c) × CanonForest k f × OnceForest f
 
--- no part of a record
+-- nothing read yet after so many leaves and groups; and no part of a record
+
+abbrev pub unreadPart : ℕ → ℕ → Part
+unreadPart done gone = record { ok = false; done = done; groups = gone; least = 0; first = 0; last = 0 }
+
 abbrev pub refusedPart : Part
-refusedPart = record { ok = false; at = 0; done = 0; groups = 0; least = 0; first = 0; last = 0 }
+refusedPart = unreadPart 0 0
 
 -- one leaf
-pub record LeafRead (n floor job at done : ℕ) (seen forward seen' forward' : List ℕ) (p : Part) : Type 0 where
+pub record LeafRead (n floor job done gone : ℕ) (seen forward seen' forward' : List ℕ) (p : Part) : Type 0 where
   pub some : p .ok ≡ true
       → (job < n) × (floor ≤ job) × (getD seen job 0 ≡ 0) × (done < n) × (seen' ≡ set seen job 1) × (forward' ≡ set forward done job)
-      × (p ≡ record { ok = true; at = at; done = done + 1; groups = 0; least = job; first = job; last = job })
+      × (p ≡ record { ok = true; done = done + 1; groups = gone; least = job; first = job; last = job })
   pub none : p .ok ≡ false → job < n → floor ≤ job → getD seen job 0 ≡ 0 → done < n → ⊥
 
--- the children as one group more
-pub record Grouped (floor : ℕ) (part p : Part) : Type 0 where
-  pub some : p .ok ≡ true → (part .ok ≡ true) × (floor ≤ part .least)
-      × (p ≡ record {
-        ok = true;
-        at = part .at;
-        done = part .done;
-        groups = part .groups + 1;
-        least = part .least;
-        first = part .first;
-        last = part .last;
-      })
+-- the part, unless one of its jobs is below the floor
+pub record Above (floor : ℕ) (part p : Part) : Type 0 where
+  pub some : p .ok ≡ true → (floor ≤ part .least) × (p ≡ part)
   pub none : p .ok ≡ false → part .ok ≡ true → floor ≤ part .least → ⊥
 
--- two parts as one, the one ahead of the other in the reverse sequence
-abbrev pub linkedPart : Part → Part → ℕ → ℕ → Part
-linkedPart ahead behind at done =
-    record {
-      ok = true;
-      at = at;
-      done = done;
-      groups = ahead .groups + behind .groups;
-      least = min (ahead .least) (behind .least);
-      first = ahead .first;
-      last = behind .last;
-    }
+-- the one of two parts that is ahead in the reverse sequence, and the one behind: the earlier child is ahead in a chain
+
+abbrev pub front : Kind → Part → Part → Part
+front series p q = p
+front parallel p q = q
+
+abbrev pub behind : Kind → Part → Part → Part
+behind series p q = q
+behind parallel p q = p
+
+-- the children p of a group and the next child q; where p is none yet, the child alone
+
+abbrev pub longer : Kind → Part → Part → Part
+longer k p q =
+    elim (p .ok) [
+      | false ↦ q
+      | true ↦
+          record {
+            ok = true;
+            done = q .done;
+            groups = q .groups;
+            least = min (p .least) (q .least);
+            first = front k p q .first;
+            last = behind k p q .last;
+          }
+    ]
+
+abbrev pub longerNext : Kind → Part → Part → List ℕ → List ℕ
+longerNext k p q next = elim (p .ok) [ false ↦ next | true ↦ set next (front k p q .last) (behind k p q .first) ]
 
 -- any tree, a child of a group of kind k, and c + 1 children of one
 
-abbrev pub TreeRead : List ℕ → (n floor at done : ℕ) (seen forward next seen' forward' next' : List ℕ) → Part → Type 0
-TreeRead bs n floor at done seen forward next seen' forward' next' =
-    Found ofTree Plain bs n floor at done
+abbrev pub TreeRead : List ℕ → (n floor done gone : ℕ) (seen forward next seen' forward' next' : List ℕ) → Part → Type 0
+TreeRead bs n floor done gone seen forward next seen' forward' next' =
+    Found ofTree Plain bs n floor done gone
     (record { seen = seen; forward = forward; next = next })
     (record { seen = seen'; forward = forward'; next = next' })
 
 abbrev pub ChildRead
-    : Kind → List ℕ → (n floor at done : ℕ) (seen forward next seen' forward' next' : List ℕ) → Part → Type 0
-ChildRead k bs n floor at done seen forward next seen' forward' next' =
-    Found ofTree (PlainUnder k) bs n floor at done
+    : Kind → List ℕ → (n floor done gone : ℕ) (seen forward next seen' forward' next' : List ℕ) → Part → Type 0
+ChildRead k bs n floor done gone seen forward next seen' forward' next' =
+    Found ofTree (PlainUnder k) bs n floor done gone
     (record { seen = seen; forward = forward; next = next })
     (record { seen = seen'; forward = forward'; next = next' })
 
 abbrev pub ChildrenRead
-    : Kind → ℕ → List ℕ → (n floor at done : ℕ) (seen forward next seen' forward' next' : List ℕ) → Part → Type 0
-ChildrenRead k c bs n floor at done seen forward next seen' forward' next' =
-    Found (ofForest k) (PlainChildren k c) bs n floor at done
+    : Kind → ℕ → List ℕ → (n done gone : ℕ) (seen forward next seen' forward' next' : List ℕ) → Part → Type 0
+ChildrenRead k c bs n done gone seen forward next seen' forward' next' =
+    Found (ofForest k) (PlainChildren k c) bs n 0 done gone
     (record { seen = seen; forward = forward; next = next })
     (record { seen = seen'; forward = forward'; next = next' })

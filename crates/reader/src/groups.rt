@@ -1,156 +1,172 @@
 // The readers of groups. Inside a series group (document 01: a chain) stand leaves and parallel groups, inside a parallel
 // group (a side group) leaves and series groups, so the two readers call each other, each over a reader of one child; from the one
-// reader to the other the bits left fall.
+// reader to the other the bits left fall. A record has fewer groups than jobs, so reading stops at a group too many.
 use crate::nodes::node_at;
+use crate::nodes::wide;
 use crate::parts::Part;
-use crate::parts::grouped;
+use crate::parts::above;
+use crate::parts::chained;
 use crate::parts::leaf;
-use crate::parts::linked;
 use crate::parts::refused;
+use crate::parts::sided;
+use crate::parts::unread;
+ghost use Prim.Native.Nat.{_<_};
+ghost use mathlib.Core.Path.{_≡_};
 ghost use Rattle.poset.specs.Tree.{series, parallel};
 ghost use Rattle.record.specs.Bits.{bitsOf};
-ghost use Rattle.reader.specs.Parts.{Ready, TreeRead, ChildRead, ChildrenRead};
+ghost use Rattle.reader.specs.Parts.{place, Ready, TreeRead, ChildRead, ChildrenRead};
 
-// `left` + 1 children of a chain, from `at` on.
-pub fn chain(
+// Where the next node begins.
+pub fn place(done: u8, groups: u8) -> usize
+    ensures { λ r. ⌜ r ≡ place done groups ⌝ }
+{
+    7 + 8 * wide(done) + 9 * wide(groups)
+}
+
+// `more` + 1 children of a chain.
+fn chain(
     bytes: &[u8],
     count: u8,
-    left: u8,
-    at: u16,
+    more: u8,
     done: u8,
+    groups: u8,
     seen: &mut [u8; 128],
     forward: &mut [u8; 128],
     next: &mut [u8; 128],
 ) -> Part
-    requires { ⌜ Ready (now bytes) count at (now seen) (now next) ⌝ }
-    ensures { λ r. ⌜ ChildrenRead series left (bitsOf (now (bytes .entry))) count 0 at done
+    requires { ⌜ (more < 128) × Ready (now bytes) count done groups (now seen) (now next) ⌝ }
+    ensures { λ r. ⌜ ChildrenRead series more (bitsOf (now (bytes .entry))) count done groups
         (now (seen .entry)) (now (forward .entry)) (now (next .entry)) (now (seen .exit)) (now (forward .exit)) (now (next .exit)) r ⌝ }
 {
-    let part = chain_child(bytes, count, at, done, seen, forward, next);
-    if !part.ok {
-        return part;
+    let mut part = unread(done, groups);
+    let mut left = more + 1;
+    while left > 0 {
+        let child = chain_child(bytes, count, part.done, part.groups, seen, forward, next);
+        if !child.ok {
+            return child;
+        }
+        let longer = chained(part, child, next);
+        part = longer;
+        left -= 1;
     }
-    if left == 0 {
-        return part;
-    }
-    let rest = chain(
-        bytes,
-        count,
-        left - 1,
-        part.at,
-        part.done,
-        seen,
-        forward,
-        next,
-    );
-    if !rest.ok {
-        return rest;
-    }
-    linked(part, rest, rest.at, rest.done, next)
+    part
 }
 
 // A child of a chain: a leaf or a side group.
-pub fn chain_child(
+fn chain_child(
     bytes: &[u8],
     count: u8,
-    at: u16,
     done: u8,
+    groups: u8,
     seen: &mut [u8; 128],
     forward: &mut [u8; 128],
     next: &mut [u8; 128],
 ) -> Part
-    requires { ⌜ Ready (now bytes) count at (now seen) (now next) ⌝ }
-    ensures { λ r. ⌜ ChildRead series (bitsOf (now (bytes .entry))) count 0 at done
+    requires { ⌜ Ready (now bytes) count done groups (now seen) (now next) ⌝ }
+    ensures { λ r. ⌜ ChildRead series (bitsOf (now (bytes .entry))) count 0 done groups
         (now (seen .entry)) (now (forward .entry)) (now (next .entry)) (now (seen .exit)) (now (forward .exit)) (now (next .exit)) r ⌝ }
 {
-    let node = node_at(bytes, at as usize);
+    let node = node_at(bytes, place(done, groups));
     if node.tag == 0 {
-        return leaf(count, 0, node.value, at + 8, done, seen, forward);
+        return leaf(count, 0, node.value, done, groups, seen, forward);
     }
     if node.tag != 2 {
         return refused();
     }
-    let part = side(
+    if groups + 1 >= count {
+        return refused();
+    }
+    side(
         bytes,
         count,
         node.value,
-        0,
-        at + 9,
         done,
+        groups + 1,
         seen,
         forward,
         next,
-    );
-    grouped(part, 0)
+    )
 }
 
-// `left` + 1 children of a side group, from `at` on: ascending by the smallest job in each, the first's not below the floor.
-pub fn side(
+// `more` + 1 children of a side group, ascending by the smallest job in each.
+fn side(
     bytes: &[u8],
     count: u8,
-    left: u8,
-    floor: u8,
-    at: u16,
+    more: u8,
     done: u8,
+    groups: u8,
     seen: &mut [u8; 128],
     forward: &mut [u8; 128],
     next: &mut [u8; 128],
 ) -> Part
-    requires { ⌜ Ready (now bytes) count at (now seen) (now next) ⌝ }
-    ensures { λ r. ⌜ ChildrenRead parallel left (bitsOf (now (bytes .entry))) count floor at done
+    requires { ⌜ (more < 128) × Ready (now bytes) count done groups (now seen) (now next) ⌝ }
+    ensures { λ r. ⌜ ChildrenRead parallel more (bitsOf (now (bytes .entry))) count done groups
         (now (seen .entry)) (now (forward .entry)) (now (next .entry)) (now (seen .exit)) (now (forward .exit)) (now (next .exit)) r ⌝ }
 {
-    let part = side_child(bytes, count, floor, at, done, seen, forward, next);
-    if !part.ok {
-        return part;
+    let mut part = unread(done, groups);
+    let mut floor = 0u8;
+    let mut left = more + 1;
+    while left > 0 {
+        let child = side_child(
+            bytes,
+            count,
+            floor,
+            part.done,
+            part.groups,
+            seen,
+            forward,
+            next,
+        );
+        if !child.ok {
+            return child;
+        }
+        floor = child.least + 1;
+        let longer = sided(part, child, next);
+        part = longer;
+        left -= 1;
     }
-    if left == 0 {
-        return part;
-    }
-    let rest = side(
-        bytes,
-        count,
-        left - 1,
-        part.least + 1,
-        part.at,
-        part.done,
-        seen,
-        forward,
-        next,
-    );
-    if !rest.ok {
-        return rest;
-    }
-    linked(rest, part, rest.at, rest.done, next)
+    part
 }
 
-// A child of a side group: a leaf or a chain.
-pub fn side_child(
+// A child of a side group, none of its jobs below the floor: a leaf or a chain.
+fn side_child(
     bytes: &[u8],
     count: u8,
     floor: u8,
-    at: u16,
     done: u8,
+    groups: u8,
     seen: &mut [u8; 128],
     forward: &mut [u8; 128],
     next: &mut [u8; 128],
 ) -> Part
-    requires { ⌜ Ready (now bytes) count at (now seen) (now next) ⌝ }
-    ensures { λ r. ⌜ ChildRead parallel (bitsOf (now (bytes .entry))) count floor at done
+    requires { ⌜ Ready (now bytes) count done groups (now seen) (now next) ⌝ }
+    ensures { λ r. ⌜ ChildRead parallel (bitsOf (now (bytes .entry))) count floor done groups
         (now (seen .entry)) (now (forward .entry)) (now (next .entry)) (now (seen .exit)) (now (forward .exit)) (now (next .exit)) r ⌝ }
 {
-    let node = node_at(bytes, at as usize);
+    let node = node_at(bytes, place(done, groups));
     if node.tag == 0 {
-        return leaf(count, floor, node.value, at + 8, done, seen, forward);
+        return leaf(count, floor, node.value, done, groups, seen, forward);
     }
     if node.tag != 1 {
         return refused();
     }
-    let part = chain(bytes, count, node.value, at + 9, done, seen, forward, next);
-    grouped(part, floor)
+    if groups + 1 >= count {
+        return refused();
+    }
+    let part = chain(
+        bytes,
+        count,
+        node.value,
+        done,
+        groups + 1,
+        seen,
+        forward,
+        next,
+    );
+    above(part, floor)
 }
 
-// The tree after the job count: what it begins with says which reader takes it.
+// The tree after the job count. One that is no chain is read as the only child of one, so that the side reader is called from one place.
 pub fn tree(
     bytes: &[u8],
     count: u8,
@@ -158,13 +174,16 @@ pub fn tree(
     forward: &mut [u8; 128],
     next: &mut [u8; 128],
 ) -> Part
-    requires { ⌜ Ready (now bytes) count 7 (now seen) (now next) ⌝ }
-    ensures { λ r. ⌜ TreeRead (bitsOf (now (bytes .entry))) count 0 7 0
+    requires { ⌜ Ready (now bytes) count 0 0 (now seen) (now next) ⌝ }
+    ensures { λ r. ⌜ TreeRead (bitsOf (now (bytes .entry))) count 0 0 0
         (now (seen .entry)) (now (forward .entry)) (now (next .entry)) (now (seen .exit)) (now (forward .exit)) (now (next .exit)) r ⌝ }
 {
     let node = node_at(bytes, 7);
-    if node.tag == 1 {
-        return side_child(bytes, count, 0, 7, 0, seen, forward, next);
+    if node.tag != 1 {
+        return chain(bytes, count, 0, 0, 0, seen, forward, next);
     }
-    chain_child(bytes, count, 7, 0, seen, forward, next)
+    if count == 1 {
+        return refused();
+    }
+    chain(bytes, count, node.value, 0, 1, seen, forward, next)
 }

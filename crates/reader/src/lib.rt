@@ -4,6 +4,7 @@ mod groups;
 mod nodes;
 mod parts;
 
+use groups::place;
 use groups::tree;
 use nodes::field;
 use nodes::filled;
@@ -13,7 +14,8 @@ ghost use Prim.Native.Nat.{_≤_};
 ghost use mathlib.Core.Option.{none};
 ghost use Rattle.record.specs.Bits.{AllBelow};
 ghost use Rattle.record.specs.Decode.{decode};
-ghost use Rattle.reader.specs.Answer.{reading, Reads, walk};
+ghost use Rattle.reader.specs.Answer.{reading};
+ghost use Rattle.reader.specs.Parts.{walk};
 ghost use Rattle.poset.specs.Areas.{padded};
 
 // ok: whether the bytes are a record. Then the job count, the number of groups, and the sequences, whose entries from the
@@ -27,7 +29,7 @@ pub struct Reading {
 }
 
 fn no_record() -> Reading
-    ensures { λ r. ⌜ Reads r (reading none) ⌝ }
+    ensures { λ r. ⌜ r ≡ reading none ⌝ }
 {
     Reading {
         ok: false,
@@ -54,7 +56,7 @@ fn in_turn(next: &[u8; 128], first: usize, count: usize) -> [u8; 128]
 
 // Reads a record: `bytes` is any slice.
 pub fn read_record(bytes: &[u8]) -> Reading
-    ensures { λ r. ⌜ Reads r (reading (decode (now (bytes .entry)))) ⌝ }
+    ensures { λ r. ⌜ r ≡ reading (decode (now (bytes .entry))) ⌝ }
 {
     if bytes.len() == 0 {
         return no_record();
@@ -73,7 +75,7 @@ pub fn read_record(bytes: &[u8]) -> Reading
     if part.done as usize != count {
         return no_record();
     }
-    if !filled(bytes, part.at as usize) {
+    if !filled(bytes, place(part.done, part.groups)) {
         return no_record();
     }
     let reverse = in_turn(&next, part.first as usize, count);

@@ -2,14 +2,13 @@
 ghost use mathlib.Core.Path.{_≡_};
 ghost use mathlib.Core.Bool.{true};
 ghost use Prim.Native.Nat.{_≤_, _<_, min};
-ghost use lib.ListN.{set};
-ghost use Rattle.reader.specs.Parts.{refusedPart, LeafRead, Grouped, linkedPart};
+ghost use Rattle.poset.specs.Tree.{series, parallel};
+ghost use Rattle.reader.specs.Parts.{unreadPart, refusedPart, LeafRead, Above, longer, longerNext};
 
-// ok: whether the part is one of a record. at, done: the bits and the leaves up to its end. groups, least: of the
-// part. first, last: the ends of its part of the reverse sequence.
+// ok: whether the part is one of a record. done, groups: the leaves and the groups of the record up to its end. least: its smallest
+// job. first, last: the ends of its part of the reverse sequence.
 pub struct Part {
     pub ok: bool,
-    pub at: u16,
     pub done: u8,
     pub groups: u8,
     pub least: u8,
@@ -17,32 +16,38 @@ pub struct Part {
     pub last: u8,
 }
 
-pub fn refused() -> Part
-    ensures { λ r. ⌜ r ≡ refusedPart ⌝ }
+// Nothing read yet after so many leaves and groups.
+pub fn unread(done: u8, groups: u8) -> Part
+    ensures { λ r. ⌜ r ≡ unreadPart done groups ⌝ }
 {
     Part {
         ok: false,
-        at: 0,
-        done: 0,
-        groups: 0,
+        done: done,
+        groups: groups,
         least: 0,
         first: 0,
         last: 0,
     }
 }
 
-// A leaf that ends at `at`: its job is below the count, not below the floor, and named for the first time.
+pub fn refused() -> Part
+    ensures { λ r. ⌜ r ≡ refusedPart ⌝ }
+{
+    unread(0, 0)
+}
+
+// A leaf after `done` others: its job is below the count, not below the floor, and named for the first time.
 pub fn leaf(
     count: u8,
     floor: u8,
     job: u8,
-    at: u16,
     done: u8,
+    groups: u8,
     seen: &mut [u8; 128],
     forward: &mut [u8; 128],
 ) -> Part
     requires { ⌜ (count ≤ 128) ⌝ }
-    ensures { λ r. ⌜ LeafRead count floor job at done (now (seen .entry)) (now (forward .entry)) (now (seen .exit)) (now (forward .exit)) r ⌝ }
+    ensures { λ r. ⌜ LeafRead count floor job done groups (now (seen .entry)) (now (forward .entry)) (now (seen .exit)) (now (forward .exit)) r ⌝ }
 {
     if job >= count {
         return refused();
@@ -62,35 +67,22 @@ pub fn leaf(
     forward[place] = job;
     Part {
         ok: true,
-        at: at,
         done: done + 1,
-        groups: 0,
+        groups: groups,
         least: job,
         first: job,
         last: job,
     }
 }
 
-// The children of a group, none of their jobs below the floor, as the group.
-pub fn grouped(part: Part, floor: u8) -> Part
-    requires { ⌜ (part .ok ≡ true → part .groups < 128) ⌝ }
-    ensures { λ r. ⌜ Grouped floor part r ⌝ }
+// The part, unless its smallest job is below the floor.
+pub fn above(part: Part, floor: u8) -> Part
+    ensures { λ r. ⌜ Above floor part r ⌝ }
 {
-    if !part.ok {
-        return refused();
-    }
     if part.least < floor {
         return refused();
     }
-    Part {
-        ok: true,
-        at: part.at,
-        done: part.done,
-        groups: part.groups + 1,
-        least: part.least,
-        first: part.first,
-        last: part.last,
-    }
+    part
 }
 
 fn smaller(a: u8, b: u8) -> u8
@@ -99,20 +91,42 @@ fn smaller(a: u8, b: u8) -> u8
     if a < b { a } else { b }
 }
 
-// Two parts as one that ends at `at`, `ahead` before `behind` in the reverse sequence.
-pub fn linked(ahead: Part, behind: Part, at: u16, done: u8, next: &mut [u8; 128]) -> Part
-    requires { ⌜ (ahead .last < 128) × (behind .first < 128) × (ahead .groups < 128) × (behind .groups < 128) ⌝ }
-    ensures { λ r. ⌜ (r ≡ linkedPart ahead behind at done) × (now (next .exit) ≡ set (now (next .entry)) (ahead .last) (behind .first)) ⌝ }
+// The children of a chain that were read, which are none if `part` is not ok, and the next one, which follows them in the reverse sequence.
+pub fn chained(part: Part, child: Part, next: &mut [u8; 128]) -> Part
+    requires { ⌜ (part .ok ≡ true → part .last < 128) ⌝ }
+    ensures { λ r. ⌜ (r ≡ longer series part child) × (now (next .exit) ≡ longerNext series part child (now (next .entry))) ⌝ }
 {
-    let last = ahead.last as usize;
-    next[last] = behind.first;
+    if !part.ok {
+        return child;
+    }
+    let last = part.last as usize;
+    next[last] = child.first;
     Part {
         ok: true,
-        at: at,
-        done: done,
-        groups: ahead.groups + behind.groups,
-        least: smaller(ahead.least, behind.least),
-        first: ahead.first,
-        last: behind.last,
+        done: child.done,
+        groups: child.groups,
+        least: smaller(part.least, child.least),
+        first: part.first,
+        last: child.last,
+    }
+}
+
+// The same of a side group, where the next child is ahead in the reverse sequence.
+pub fn sided(part: Part, child: Part, next: &mut [u8; 128]) -> Part
+    requires { ⌜ (child .last < 128) ⌝ }
+    ensures { λ r. ⌜ (r ≡ longer parallel part child) × (now (next .exit) ≡ longerNext parallel part child (now (next .entry))) ⌝ }
+{
+    if !part.ok {
+        return child;
+    }
+    let last = child.last as usize;
+    next[last] = part.first;
+    Part {
+        ok: true,
+        done: child.done,
+        groups: child.groups,
+        least: smaller(part.least, child.least),
+        first: child.first,
+        last: part.last,
     }
 }

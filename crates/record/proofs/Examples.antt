@@ -3,10 +3,10 @@ use Prim.Native.Nat.{ℕ}
 use mathlib.Core.Path.{_≡_, refl}
 use mathlib.Core.List.{List, [], _∷_, map}
 use mathlib.Core.Option.{Option, none, some, bind}
-use Rattle.poset.specs.Lists.{count, upFrom, below, onlyIf}
+use Rattle.poset.specs.Lists.{occurrences, upFrom, below, onlyIf}
 use Rattle.poset.specs.Tree.{series, parallel, Tree, leaf, node, last, more, leaves, least, alternates, ahead, canonical}
 use Rattle.record.specs.Bits.{bits, bitsOf}
-use Rattle.record.specs.Decode.{readBits, kindOf, readForest, grouped, readTree, all, fills, spanning, decode}
+use Rattle.record.specs.Decode.{readBits, kindOf, readForest, grouped, readTree, every, fills, spanning, decode}
 
 -- bytes, and what they decode to
 abbrev pub Example : Type 0
@@ -28,6 +28,6 @@ examples =
     ∷ []
 
 pub decoded : map (λ (e : Example). decode (e .0)) examples ≡ map (λ (e : Example). e .1) examples
-unfolding bind count upFrom below onlyIf leaves least alternates ahead canonical
-    bits bitsOf readBits kindOf readForest grouped readTree all fills spanning decode
+unfolding bind occurrences upFrom below onlyIf leaves least alternates ahead canonical
+    bits bitsOf readBits kindOf readForest grouped readTree every fills spanning decode
 decoded = refl

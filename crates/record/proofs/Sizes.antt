@@ -7,7 +7,7 @@ use mathlib.Core.Logic.{⊎-elim}
 use native.Mathlib.Nat.{eq-or-lt-of-le}
 use native.Mathlib.Omega.{arith}
 use lib.ListN.{length, length-append}
-use Rattle.poset.specs.Lists.{count}
+use Rattle.poset.specs.Lists.{occurrences}
 use Rattle.poset.specs.Tree.{Kind, series, parallel, Tree, leaf, node, Forest, last, more, leaves, forestLeaves, groups, forestGroups, Spans}
 use Rattle.poset.proofs.Laws.{lt-true, count-same, count-other, count-mem}
 use Rattle.poset.proofs.Shape.{Once, in-leaves, leaves-in}
@@ -22,7 +22,7 @@ use Rattle.record.proofs.Fields.{bits-below, length-bits}
 -- how often the numbers below n stand in a list, all together
 abbrev total : ℕ → List ℕ → ℕ
 total zero xs = 0
-total (suc n) xs = total n xs + count n xs
+total (suc n) xs = total n xs + occurrences n xs
 
 total-past : (n x : ℕ) (xs : List ℕ) → n ≤ x → total n (x ∷ xs) ≡ total n xs
 total-past zero x xs h = refl
@@ -37,12 +37,12 @@ total-more (suc n) x xs h =
     (eq-or-lt-of-le h)
 
 total-length : (n : ℕ) (xs : List ℕ) → AllBelow n xs → total n xs ≡ length xs
-unfolding count
+unfolding occurrences
 total-length zero [] h = refl
 total-length (suc n) [] h = omega (arith, total-length n [] below-nil)
 total-length n (x ∷ xs) h = total-more n x xs (below-head h) ∙ ap suc (total-length n xs (below-tail h))
 
-total-each : (n : ℕ) (xs : List ℕ) → ((u : ℕ) → u < n → count u xs ≡ 1) → total n xs ≡ n
+total-each : (n : ℕ) (xs : List ℕ) → ((u : ℕ) → u < n → occurrences u xs ≡ 1) → total n xs ≡ n
 total-each zero xs h = refl
 total-each (suc n) xs h = omega (arith, h n (omega arith), total-each n xs (λ u l. h u (omega arith)))
 
@@ -50,7 +50,7 @@ module _ (n : ℕ) (t : Tree) (s : Spans n t) where
   pub leaves-below : AllBelow n (leaves t)
   leaves-below x i = spans-holds n t s .1 .inside x (leaves-in t i)
 
-  pub leaf-once : (u : ℕ) → u < n → count u (leaves t) ≡ 1
+  pub leaf-once : (u : ℕ) → u < n → occurrences u (leaves t) ≡ 1
   leaf-once u h = s u ∙ ap (λ (b : Bool). cond b 1 0) (lt-true u n h)
 
   pub length-leaves : length (leaves t) ≡ n
@@ -58,15 +58,15 @@ module _ (n : ℕ) (t : Tree) (s : Spans n t) where
 
 -- where no job stands twice, as many leaves as jobs are all the jobs
 
-total-le : (n : ℕ) (xs : List ℕ) → ((u : ℕ) → count u xs ≤ 1) → total n xs ≤ n
+total-le : (n : ℕ) (xs : List ℕ) → ((u : ℕ) → occurrences u xs ≤ 1) → total n xs ≤ n
 total-le zero xs h = omega arith
 total-le (suc n) xs h = omega (arith, total-le n xs h, h n)
 
-total-full : (n : ℕ) (xs : List ℕ) → ((u : ℕ) → count u xs ≤ 1) → total n xs ≡ n → (u : ℕ) → u < n → count u xs ≡ 1
+total-full : (n : ℕ) (xs : List ℕ) → ((u : ℕ) → occurrences u xs ≤ 1) → total n xs ≡ n → (u : ℕ) → u < n → occurrences u xs ≡ 1
 total-full zero xs h e u l = absurd (omega arith)
 total-full (suc n) xs h e u l =
     ⊎-elim
-    (λ (q : suc u ≡ suc n). let same : u ≡ n = omega arith in ap (λ (v : ℕ). count v xs) same ∙ omega (arith, total-le n xs h, h n))
+    (λ (q : suc u ≡ suc n). let same : u ≡ n = omega arith in ap (λ (v : ℕ). occurrences v xs) same ∙ omega (arith, total-le n xs h, h n))
     (λ (m : suc u < suc n). total-full n xs h (omega (arith, total-le n xs h, h n)) u (omega arith))
     (eq-or-lt-of-le l)
 

@@ -5,7 +5,7 @@ use mathlib.Core.Bool.{Bool, true, _&&_}
 use mathlib.Core.Option.{Option, none, some, bind as _>>=_}
 use lib.Dec.{eqb, ltb}
 use lib.ListN.{length}
-use Rattle.poset.specs.Lists.{count, below, onlyIf}
+use Rattle.poset.specs.Lists.{occurrences, below, onlyIf}
 use Rattle.poset.specs.Tree.{Kind, series, parallel, Tree, leaf, node, Forest, last, more, leaves, canonical}
 use Rattle.record.specs.Bits.{bitsOf}
 
@@ -53,17 +53,17 @@ readTree (suc d) (suc b ∷ bs) = do
   t ← grouped (kindOf kind) f
   some (t, rest)
 
-unfoldable pub all : (ℕ → Bool) → List ℕ → Bool
-all p [] = true
-all p (x ∷ xs) = p x && all p xs
+unfoldable pub every : (ℕ → Bool) → List ℕ → Bool
+every p [] = true
+every p (x ∷ xs) = p x && every p xs
 
 -- the bits left fill the last byte and nothing follows
 unfoldable pub fills : List ℕ → Bool
-fills rest = ltb (length rest) 8 && all (eqb 0) rest
+fills rest = ltb (length rest) 8 && every (eqb 0) rest
 
 -- every leaf is a job below n, and each of these is on one leaf
 unfoldable pub spanning : ℕ → Tree → Bool
-spanning n t = all (λ j. ltb j n) (leaves t) && all (λ j. eqb (count j (leaves t)) 1) (below n)
+spanning n t = every (λ j. ltb j n) (leaves t) && every (λ j. eqb (occurrences j (leaves t)) 1) (below n)
 
 -- the job count and the tree of a record; the bits left bound how deep groups stand one in another
 unfoldable pub decode : List ℕ → Option (ℕ × Tree)

@@ -11,7 +11,8 @@ use lib.Bits.{bitAnd, bitOr}
 use lib.ListN.{length, getD, set, replicate, length-set}
 use lib.Seq.{getD-set-same, getD-set-other}
 use Rattle.poset.proofs.Laws.{false-unless}
-use Rattle.relation.specs.Table.{bit, has, holds, columns, Joins, Inside}
+use Rattle.relation.specs.Table.{bit, has, holds, Inside}
+use Rattle.relation.specs.Columns.{columns, Joins}
 use Rattle.relation.proofs.Lists.{or-false}
 use Rattle.relation.proofs.Sets.{has-low, has-high, has-beyond, job-ind, bit-masked}
 use Rattle.relation.proofs.Tables.{has-blank}

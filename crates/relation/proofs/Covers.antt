@@ -10,7 +10,7 @@ use mathlib.Core.Logic.{_⊎_, inl, inr, ⊎-elim}
 use lib.Dec.{eqb, ltb}
 use lib.ListN.{length, getD, replicate}
 use borrow.Author.Tests.{lt-ltb, le-ltb, eq-eqb, ne-eqb}
-use Rattle.poset.specs.Lists.{any, below}
+use Rattle.poset.specs.Lists.{exists, below}
 use Rattle.poset.specs.Order.{Rel, Strict, covers}
 use Rattle.poset.proofs.Laws.{decided, clash, false-unless, same-test, and-left, and-right, and-intro, or-cases, or-left, or-right, not-false}
 use Rattle.poset.proofs.Laws.{any-hit, any-found, any-miss, below-mem, mem-below}
@@ -22,7 +22,7 @@ use Rattle.relation.proofs.Tables.{has-blank}
 module _ (n : ℕ) (r : Rel) (u : ℕ) where
   -- some job is after u and before v
   abbrev pub between : ℕ → Bool
-  between v = any (λ w. r u w && r w v) (below n)
+  between v = exists (λ w. r u w && r w v) (below n)
 
   -- the sweep has found far, and has rest before it
   pub record Swept (far rest : List ℕ) : Type 0 where
@@ -34,7 +34,7 @@ module _ (n : ℕ) (r : Rel) (u : ℕ) where
 module _ (n : ℕ) (r : Rel) (u : ℕ) (strict : Strict n r) (inside : (u v : ℕ) → r u v ≡ true → (u < n) × (v < n)) where
   -- the sweep starts with the jobs after u that are before another job
   pub swept-none
-      : n ≤ 128 → (far rest dom : List ℕ) → ((v : ℕ) → has far v ≡ false) → ((w : ℕ) → has dom w ≡ any (r w) (below 128))
+      : n ≤ 128 → (far rest dom : List ℕ) → ((v : ℕ) → has far v ≡ false) → ((w : ℕ) → has dom w ≡ exists (r w) (below 128))
       → ((w : ℕ) → has rest w ≡ (r u w && has dom w)) → Swept n r u far rest
   swept-none l far rest dom none some row =
       record {
@@ -48,7 +48,7 @@ module _ (n : ℕ) (r : Rel) (u : ℕ) (strict : Strict n r) (inside : (u v : �
       before w v e = some w ∙ any-hit (r w) (below-mem (lt-of-lt-of-le (inside w v e .1) l)) e
 
   module _ (far rest : List ℕ) (s : Swept n r u far rest) where
-    pub swept-end : n ≤ 128 → any (has rest) (below 128) ≡ false → (v : ℕ) → has far v ≡ between n r u v
+    pub swept-end : n ≤ 128 → exists (has rest) (below 128) ≡ false → (v : ℕ) → has far v ≡ between n r u v
     swept-end l e v = same-test _ _ (s .sound v) back
       where
         back : between n r u v ≡ true → has far v ≡ true
@@ -84,7 +84,7 @@ module _ (n : ℕ) (r : Rel) (u : ℕ) (strict : Strict n r) (inside : (u v : �
     -- the smallest job, whose row has joined, leaves the rest, and so does what is found
     pub swept-leave
         : (w : ℕ) → Least rest w → ((v : ℕ) → r w v ≡ true → has far v ≡ true) → (others rest′ : List ℕ)
-        → ((v : ℕ) → has others v ≡ (has rest v && any (has rest) (below v)))
+        → ((v : ℕ) → has others v ≡ (has rest v && exists (has rest) (below v)))
         → ((v : ℕ) → has rest′ v ≡ (has others v && not (has far v))) → Swept n r u far rest′
     swept-leave w least all others rest′ without left =
         record {
@@ -109,7 +109,7 @@ module _ (n : ℕ) (r : Rel) (u : ℕ) (strict : Strict n r) (inside : (u v : �
       (near far′ others rest′ : List ℕ)
       (first : (v : ℕ) → has near v ≡ (has far v || r w v))
       (second : (v : ℕ) → has far′ v ≡ (has near v || r x v))
-      (without : (v : ℕ) → has others v ≡ (has rest v && any (has rest) (below v)))
+      (without : (v : ℕ) → has others v ≡ (has rest v && exists (has rest) (below v)))
       (left : (v : ℕ) → has rest′ v ≡ (has others v && not (has far′ v)))
     where
       pub swept-next : Swept n r u far′ rest′
@@ -119,7 +119,7 @@ module _ (n : ℕ) (r : Rel) (u : ℕ) (strict : Strict n r) (inside : (u v : �
 
 -- the sweep ends: each time the smallest job is left out, whatever else is
 pub swept-less
-    : (rest others gone rest′ : List ℕ) (w : ℕ) → Least rest w → ((v : ℕ) → has others v ≡ (has rest v && any (has rest) (below v)))
+    : (rest others gone rest′ : List ℕ) (w : ℕ) → Least rest w → ((v : ℕ) → has others v ≡ (has rest v && exists (has rest) (below v)))
     → ((v : ℕ) → has rest′ v ≡ (has others v && not (has gone v))) → length (members rest′) < length (members rest)
 unfolding members
 swept-less rest others gone rest′ w least without left =

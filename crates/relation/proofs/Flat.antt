@@ -1,21 +1,24 @@
--- Arcs in a flat list, read two numbers at a time, and the place of one among them.
-use Prim.Native.Nat.{ℕ, suc, _+_, _/_, _≤_, _<_}
-use native.Mathlib.Decide.{ℕ-discrete}
+-- Arcs in a flat list, two numbers for each: the place of one among them, and the table of them all.
+use Prim.Native.Nat.{ℕ, zero, suc, _+_, _-_, _*_, _/_, _≤_, _<_}
+use native.Mathlib.Decide.{decLt, ℕ-discrete}
 use native.Mathlib.Numerals.{add-one}
 use native.Mathlib.Omega.{arith}
-use mathlib.Core.Path.{_≡_, refl, sym, ap, _∙_}
-use mathlib.Core.List.{List, [], _∷_, List·Memᴰ·head, List·Memᴰ·tail}
+use mathlib.Core.Path.{_≡_, refl, sym, ap, ap₂, subst, _∙_}
+use mathlib.Core.List.{List, [], _∷_, List·Memᴰ, List·Memᴰ·head, List·Memᴰ·tail}
 use mathlib.Core.Bool.{Bool, true, false, _&&_, _||_}
 use mathlib.Core.Option.{none, some}
+use mathlib.Core.Logic.{⊎-elim}
 use lib.Dec.{eqb}
-use lib.ListN.{length, getD, drop, set, replicate, length-drop, length-set, getD-replicate}
+use lib.ListN.{length, getD, drop, set, replicate, length-drop, getD-replicate, List·getD-eq-default}
 use lib.Seq.{drop-cons, getD-set-same, getD-set-other}
-use borrow.Author.Tests.{eq-eqb, ne-eqb}
-use Rattle.poset.specs.Lists.{any}
-use Rattle.poset.specs.Order.{Arc, Within, arc}
+use borrow.Author.Tests.{eqb-true, ne-eqb, lt-leb}
+use Rattle.poset.specs.Lists.{exists}
+use Rattle.poset.specs.Order.{Arc, arc}
+use Rattle.poset.proofs.Laws.{clash, same-test, and-left, and-right, and-intro, or-cases, or-left, or-right, eqb-same, any-yes, any-not, any-miss}
+use Rattle.poset.proofs.Closure.{arc-mem}
 use Rattle.relation.specs.Table.{has, holds}
-use Rattle.relation.specs.Arcs.{pairs, placeFrom, place}
-use Rattle.relation.proofs.Lists.{or-false, or-assoc}
+use Rattle.relation.specs.Arcs.{pairs, placeFrom, place, outside}
+use Rattle.relation.proofs.Lists.{or-false}
 use Rattle.relation.proofs.Tables.{set-row, holds-blank}
 
 -- reading on from i
@@ -63,81 +66,214 @@ module _ (p : Arc → Bool) (xs : List ℕ) where
         let e : (i + 2) / 2 ≡ suc (i / 2) = omega arith in
         record { within = omega arith; left = rw e (s .left ∙ rw (pairs-step xs i l, placeFrom, h)) }
 
--- the relation of the arcs read
+-- whether some arc passes a test
 
-pub arc-cons : (a : Arc) (rest : List Arc) (u v : ℕ) → arc (a ∷ rest) u v ≡ ((eqb (a .0) u && eqb (a .1) v) || arc rest u v)
-unfolding arc any
-arc-cons a rest u v = by (eqb (a .0) u && eqb (a .1) v)
-  where
-    by : (b : Bool) → _≡_ {A = Bool} (elim b [ true ↦ true | false ↦ arc rest u v ]) (b || arc rest u v)
-    by true = refl
-    by false = refl
+module _ (p : Arc → Bool) (xs : List ℕ) where
+  -- a look at all arcs that has come to i
+  pub record Noticed (some : Bool) (i : ℕ) : Type 0 where
+    pub within : i ≤ length xs
+    pub left : (some || exists p (pairs (drop i xs))) ≡ exists p (pairs xs)
 
--- a table that holds the arcs read up to i
-pub record Built (xs : List ℕ) (t : List (List ℕ)) (i : ℕ) : Type 0 where
-  pub within : i ≤ length xs
-  pub rows : length t ≡ 128
-  pub words : (u : ℕ) → u < 128 → length (getD t u []) ≡ 2
-  pub left : (u v : ℕ) → (holds t u v || arc (pairs (drop i xs)) u v) ≡ arc (pairs xs) u v
-  pub jobs : Within 128 (pairs (drop i xs))
+  pub noticed-none : Noticed false 0
+  noticed-none = record { within = omega arith; left = refl }
 
-module _ (xs : List ℕ) where
-  pub built-none : Within 128 (pairs xs) → Built xs (replicate 128 (replicate 2 0)) 0
-  built-none w =
-      record {
-        within = omega arith;
-        rows = refl;
-        words = λ u l. ap length (getD-replicate 128 u (replicate 2 0) [] l);
-        left = λ u v. rw (holds-blank 128 u v);
-        jobs = w;
-      }
-
-  module _ (t : List (List ℕ)) (i : ℕ) (b : Built xs t i) where
-    pub built-end : length xs ≤ i + 1 → (u v : ℕ) → holds t u v ≡ arc (pairs xs) u v
-    unfolding arc any
-    built-end l u v = sym (or-false (holds t u v)) ∙ ap (λ arcs. holds t u v || arc arcs u v) (sym (pairs-end xs i l)) ∙ b .left u v
+  module _ (some : Bool) (i : ℕ) (s : Noticed some i) where
+    pub noticed-end : length xs ≤ i + 1 → some ≡ exists p (pairs xs)
+    unfolding exists
+    noticed-end l = sym (or-false some) ∙ ap (λ arcs. some || exists p arcs) (sym (pairs-end xs i l)) ∙ s .left
 
     module _ (l : i + 1 < length xs) where
-      jobs-below : Within 128 ((getD xs i 0, getD xs (i + 1) 0) ∷ pairs (drop (i + 2) xs))
-      jobs-below = rw (pairs-step xs i l) at (b .jobs)
-
-      pub first-below : getD xs i 0 < 128
-      first-below = jobs-below (getD xs i 0, getD xs (i + 1) 0) (List·Memᴰ·head refl) .0
-
-      pub second-below : getD xs (i + 1) 0 < 128
-      second-below = jobs-below (getD xs i 0, getD xs (i + 1) 0) (List·Memᴰ·head refl) .1
-
-      pub built-next
-          : (row : List ℕ) → length row ≡ 2 → ((v : ℕ) → has row v ≡ (has (getD t (getD xs i 0) []) v || eqb (getD xs (i + 1) 0) v))
-          → Built xs (set t (getD xs i 0) row) (i + 2)
-      unfolding holds
-      built-next row two h =
+      pub noticed-hit : p (getD xs i 0, getD xs (i + 1) 0) ≡ true → Noticed true (i + 2)
+      noticed-hit h =
           record {
             within = omega arith;
-            rows = length-set t x row ∙ b .rows;
-            words = λ u m. sized u m (ℕ-discrete u x);
-            left = λ u v. ap (λ e. e || arc rest u v) (more u v) ∙ or-assoc (holds t u v) _ _ ∙ sym (was u v) ∙ b .left u v;
-            jobs = λ a m. jobs-below a (List·Memᴰ·tail m);
+            left = sym (or-right some true refl) ∙ ap (λ b. some || b) (sym (ap (exists p) (pairs-step xs i l) ∙ any-yes p _ _ h)) ∙ s .left;
           }
-        where
-          x : ℕ
-          x = getD xs i 0
 
-          y : ℕ
-          y = getD xs (i + 1) 0
+      pub noticed-next : p (getD xs i 0, getD xs (i + 1) 0) ≡ false → Noticed some (i + 2)
+      noticed-next h =
+          record {
+            within = omega arith;
+            left = ap (λ b. some || b) (sym (ap (exists p) (pairs-step xs i l) ∙ any-not p _ _ h)) ∙ s .left;
+          }
 
-          rest : List Arc
-          rest = pairs (drop (i + 2) xs)
+-- where none does there is no first one
+pub nowhere : (p : Arc → Bool) (arcs : List Arc) → exists p arcs ≡ false → none ≡ place p arcs
+unfolding place placeFrom
+nowhere p arcs h = from 0 arcs h
+  where
+    from : (k : ℕ) (arcs : List Arc) → exists p arcs ≡ false → none ≡ placeFrom k p arcs
+    from k [] h = refl
+    from k (a ∷ arcs) h =
+        let e = any-miss p (a ∷ arcs) h (List·Memᴰ·head refl) in
+        rw (e, placeFrom) (from (suc k) arcs (sym (any-not p a arcs e) ∙ h))
 
-          sized : (u : ℕ) → u < 128 → Dec (u ≡ x) → length (getD (set t x row) u []) ≡ 2
-          sized u m (yes e) = rw e (ap length (getD-set-same t x row [] (rw (b .rows) first-below)) ∙ two)
-          sized u m (no d) = ap length (getD-set-other t x u row [] d) ∙ b .words u m
+-- the numbers of a list and their greatest
 
-          more : (u v : ℕ) → holds (set t x row) u v ≡ (holds t u v || (eqb x u && eqb y v))
-          more =
-              set-row t x row (λ u v. holds t u v || (eqb x u && eqb y v)) (rw (b .rows) first-below)
-              (λ v. h v ∙ ap (λ e. holds t x v || (e && eqb y v)) (sym (eq-eqb x x refl)))
-              (λ u v d. sym (ap (λ e. holds t u v || (e && eqb y v)) (ne-eqb x u (λ e. d (sym e))) ∙ or-false (holds t u v)))
+module _ (xs : List ℕ) where
+  -- those read up to i are at most top
+  pub record Bounded (top i : ℕ) : Type 0 where
+    pub within : i ≤ length xs
+    pub above : (j : ℕ) → j < i → getD xs j 0 ≤ top
 
-          was : (u v : ℕ) → (holds t u v || arc (pairs (drop i xs)) u v) ≡ (holds t u v || ((eqb x u && eqb y v) || arc rest u v))
-          was u v = ap (λ e. holds t u v || e) (ap (λ arcs. arc arcs u v) (pairs-step xs i l) ∙ arc-cons (x, y) rest u v)
+  pub bounded-none : Bounded 0 0
+  bounded-none = record { within = omega arith; above = λ j l. absurd (omega arith) }
+
+  module _ (top i : ℕ) (b : Bounded top i) where
+    pub bounded-end : length xs ≤ i → (j : ℕ) → getD xs j 0 ≤ top
+    bounded-end l j =
+        elim (decLt j (length xs)) [
+          | yes m ↦ b .above j (omega arith)
+          | no m ↦ let past : length xs ≤ j = omega arith in omega (arith, List·getD-eq-default xs 0 past)
+        ]
+
+    pub bounded-next : i < length xs → (top′ : ℕ) → (top ≤ top′) × (getD xs i 0 ≤ top′) → Bounded top′ (i + 1)
+    bounded-next l top′ h =
+        record {
+          within = omega arith;
+          above = λ j k. elim (ℕ-discrete j i) [ yes e ↦ rw e (h .1) | no d ↦ omega (arith, b .above j (omega arith)) ];
+        }
+
+-- no arc of numbers that are all below n is outside
+pub none-outside : (n top : ℕ) (xs : List ℕ) → ((i : ℕ) → getD xs i 0 ≤ top) → top < n → exists (outside n) (pairs xs) ≡ false
+unfolding pairs exists outside
+none-outside n top [] h l = refl
+none-outside n top (u ∷ []) h l = refl
+none-outside n top (u ∷ v ∷ xs) h l = any-not (outside n) (u, v) (pairs xs) inside ∙ none-outside n top xs (λ i. h (suc (suc i))) l
+  where
+    inside : outside n (u, v) ≡ false
+    inside = rw (lt-leb n u (omega (arith, h 0))) (lt-leb n v (omega (arith, h 1)))
+
+-- the arc at place k
+
+pub pairs-at : (xs : List ℕ) (k : ℕ) → 2 * k + 1 < length xs → List·Memᴰ (getD xs (2 * k) 0, getD xs (2 * k + 1) 0) (pairs xs)
+unfolding pairs
+pairs-at [] k l = absurd (omega arith)
+pairs-at (x ∷ []) k l = absurd (omega arith)
+pairs-at (x ∷ y ∷ xs) zero l = List·Memᴰ·head refl
+pairs-at (x ∷ y ∷ xs) (suc k) l =
+    let e : 2 * suc k ≡ suc (suc (2 * k)) = omega arith in
+    let d : suc (suc (2 * k)) + 1 ≡ suc (suc (2 * k + 1)) = omega arith in
+    rw (e, d) (List·Memᴰ·tail (pairs-at xs k (omega arith)))
+
+pairs-found : (xs : List ℕ) {a : Arc} → List·Memᴰ a (pairs xs) → (k : ℕ) × (2 * k + 1 < length xs) × ((getD xs (2 * k) 0, getD xs (2 * k + 1) 0) ≡ a)
+unfolding pairs
+pairs-found [] m = elim m [ ]
+pairs-found (x ∷ []) m = elim m [ ]
+pairs-found (x ∷ y ∷ xs) (List·Memᴰ·head e) = (0, omega arith, sym e)
+pairs-found (x ∷ y ∷ xs) (List·Memᴰ·tail m) =
+    let r = pairs-found xs m in
+    let e : 2 * suc (r .0) ≡ suc (suc (2 * r .0)) = omega arith in
+    let d : suc (suc (2 * r .0)) + 1 ≡ suc (suc (2 * r .0 + 1)) = omega arith in
+    (suc (r .0), omega (arith, r .1), rw (e, d) (r .2))
+
+-- the rows of a table have two words each
+abbrev Words : List (List ℕ) → Type 0
+Words t = (u : ℕ) → u < 128 → length (getD t u []) ≡ 2
+
+module _ (t : List (List ℕ)) (w : Words t) (u : ℕ) (l : u < 128) where
+  pub words-row : u < length t
+  words-row =
+      elim (decLt u (length t)) [
+        | yes m ↦ m
+        | no m ↦ let past : length t ≤ u = omega arith in absurd (omega (arith, w u l, ap length (List·getD-eq-default t [] past)))
+      ]
+
+  pub words-set : (row : List ℕ) → length row ≡ 2 → Words (set t u row)
+  words-set row two x m =
+      elim (ℕ-discrete x u) [
+        | yes e ↦ rw e (ap length (getD-set-same t u row [] words-row) ∙ two)
+        | no d ↦ ap length (getD-set-other t u x row [] d) ∙ w x m
+      ]
+
+module _ (xs : List ℕ) where
+  -- a table has the arc at place k
+  abbrev At : List (List ℕ) → ℕ → Type 0
+  At t k = holds t (getD xs (2 * k) 0) (getD xs (2 * k + 1) 0) ≡ true
+
+  -- the arc at place k is put into a table
+  abbrev Puts : List (List ℕ) → ℕ → List (List ℕ) → Type 0
+  Puts t k t′ = (u v : ℕ) → holds t′ u v ≡ (holds t u v || (eqb (getD xs (2 * k) 0) u && eqb (getD xs (2 * k + 1) 0) v))
+
+  pub put-row
+      : (t : List (List ℕ)) (k : ℕ) (row : List ℕ) → getD xs (2 * k) 0 < length t
+      → ((v : ℕ) → has row v ≡ (has (getD t (getD xs (2 * k) 0) []) v || eqb (getD xs (2 * k + 1) 0) v)) → Puts t k (set t (getD xs (2 * k) 0) row)
+  unfolding holds
+  put-row t k row l h =
+      set-row t x row (λ u v. holds t u v || (eqb x u && eqb y v)) l
+      (λ v. h v ∙ ap (λ e. holds t x v || (e && eqb y v)) (sym (eqb-same x)))
+      (λ u v d. sym (ap (λ e. holds t u v || (e && eqb y v)) (ne-eqb x u (λ e. d (sym e))) ∙ or-false (holds t u v)))
+    where
+      x : ℕ
+      x = getD xs (2 * k) 0
+
+      y : ℕ
+      y = getD xs (2 * k + 1) 0
+
+  module _ (t : List (List ℕ)) (k : ℕ) (t′ : List (List ℕ)) (p : Puts t k t′) where
+    put-here : At t′ k
+    put-here =
+        let x = getD xs (2 * k) 0 in
+        let y = getD xs (2 * k + 1) 0 in
+        p x y ∙ or-right (holds t x y) _ (and-intro _ _ (eqb-same x) (eqb-same y))
+
+    put-keeps : (u v : ℕ) → holds t u v ≡ true → holds t′ u v ≡ true
+    put-keeps u v e = p u v ∙ or-left (holds t u v) _ e
+
+    put-from
+        : 2 * k + 1 < length xs → ((u v : ℕ) → holds t u v ≡ true → arc (pairs xs) u v ≡ true)
+        → (u v : ℕ) → holds t′ u v ≡ true → arc (pairs xs) u v ≡ true
+    put-from l from u v e = ⊎-elim (from u v) there (or-cases (holds t u v) _ (sym (p u v) ∙ e))
+      where
+        there : (eqb (getD xs (2 * k) 0) u && eqb (getD xs (2 * k + 1) 0) v) ≡ true → arc (pairs xs) u v ≡ true
+        there d =
+            ap₂ (arc (pairs xs)) (sym (eqb-true _ u (and-left _ _ d))) (sym (eqb-true _ v (and-right (eqb (getD xs (2 * k) 0) u) _ d)))
+            ∙ arc-mem (pairs xs) _ _ .1 (pairs-at xs k l)
+
+  -- a table that has the first i arcs, i from the half on, and no others
+  pub record Built (half : ℕ) (t : List (List ℕ)) (i : ℕ) : Type 0 where
+    pub words : Words t
+    pub from : (u v : ℕ) → holds t u v ≡ true → arc (pairs xs) u v ≡ true
+    pub low : (k : ℕ) → k < i → At t k
+    pub high : (k : ℕ) → k < i → At t (half + k)
+
+  pub built-none : (half : ℕ) → Built half (replicate 128 (replicate 2 0)) 0
+  built-none half =
+      record {
+        words = λ u l. ap length (getD-replicate 128 u (replicate 2 0) [] l);
+        from = λ u v e. absurd (clash e (holds-blank 128 u v));
+        low = λ k l. absurd (omega arith);
+        high = λ k l. absurd (omega arith);
+      }
+
+  module _ (half : ℕ) (t : List (List ℕ)) (i : ℕ) (b : Built half t i) where
+    pub built-end : half ≡ length xs / 4 → length xs / 2 - half ≤ i → (u v : ℕ) → holds t u v ≡ arc (pairs xs) u v
+    built-end e l u v = same-test _ _ (b .from u v) back
+      where
+        at : (k : ℕ) → 2 * k + 1 < length xs → At t k
+        at k m =
+            elim (decLt k i) [
+              | yes d ↦ b .low k d
+              | no d ↦ let s : half + (k - half) ≡ k = omega arith in rw s at (b .high (k - half) (omega arith))
+            ]
+
+        back : arc (pairs xs) u v ≡ true → holds t u v ≡ true
+        back d =
+            let f = pairs-found xs (arc-mem (pairs xs) u v .0 d) in
+            subst (λ (a : Arc). holds t (a .0) (a .1) ≡ true) (f .2) (at (f .0) (f .1))
+
+    pub built-next
+        : 2 * (half + i) + 1 < length xs → (t′ t″ : List (List ℕ)) → Puts t i t′ → Puts t′ (half + i) t″ → Words t″ → Built half t″ (i + 1)
+    built-next l t′ t″ p q w =
+        record {
+          words = w;
+          from = put-from t′ (half + i) t″ q l (put-from t i t′ p (omega arith) (b .from));
+          low = λ k m. elim (ℕ-discrete k i) [ yes e ↦ rw e (later _ _ (put-here t i t′ p)) | no d ↦ kept _ _ (b .low k (omega arith)) ];
+          high = λ k m. elim (ℕ-discrete k i) [ yes e ↦ rw e (put-here t′ (half + i) t″ q) | no d ↦ kept _ _ (b .high k (omega arith)) ];
+        }
+      where
+        later : (u v : ℕ) → holds t′ u v ≡ true → holds t″ u v ≡ true
+        later = put-keeps t′ (half + i) t″ q
+
+        kept : (u v : ℕ) → holds t u v ≡ true → holds t″ u v ≡ true
+        kept u v e = later u v (put-keeps t i t′ p u v e)

@@ -9,4 +9,5 @@ pub mod Covers
 pub mod Listing
 pub mod Chain
 pub mod Sought
-pub mod Mirror
+pub mod Digits
+pub mod Exchanging

@@ -2,17 +2,18 @@
 use Prim.Native.Nat.{ℕ, suc, _+_, _-_, _*_, _≤_, _<_, zero-le}
 use native.Mathlib.Omega.{arith}
 use mathlib.Core.Path.{_≡_, refl, sym, ap, ap₂, _∙_}
-use mathlib.Core.List.{List, [], _∷_, _++_, map, flatMap}
-use mathlib.Core.Bool.{false, _&&_}
+use mathlib.Core.List.{List, [], _∷_, _++_, map, flatMap, map-append}
+use mathlib.Core.Bool.{false, _&&_, not}
+use lib.Dec.{ltb}
 use lib.ListN.{length, getD, set, drop, length-append, length-map, length-set}
 use lib.Seq.{sets, sets-eq, length-sets}
-use Rattle.poset.specs.Lists.{any, keep, upFrom, below}
+use Rattle.poset.specs.Lists.{exists, keep, upFrom, below}
 use Rattle.poset.specs.Order.{Arc, pairsOf}
 use Rattle.relation.specs.Table.{has, holds, members, Least, Inside}
-use Rattle.relation.specs.Arcs.{arcBytes}
-use Rattle.poset.specs.Areas.{overlay}
+use Rattle.poset.specs.Areas.{overlay, arcBytes}
+use Rattle.poset.proofs.Areas.{bytes-append, bytes-length}
 use Rattle.relation.proofs.Lists.{range-start, range-step, range-end}
-use Rattle.relation.proofs.Sets.{members-step, members-end, members-below, members-some}
+use Rattle.relation.proofs.Sets.{members-step, members-end, members-below, members-some, members-low, members-halves}
 
 -- the pairs from u to the jobs of a row
 abbrev pub rowPairs : ℕ → List ℕ → List Arc
@@ -22,16 +23,6 @@ row-length : (u : ℕ) (s : List ℕ) → length (rowPairs u s) ≡ length (memb
 row-length u s = length-map {B = Arc} (members s) (λ v. (u, v))
 
 -- bytes
-
-bytes-append : (a b : List Arc) → arcBytes (a ++ b) ≡ arcBytes a ++ arcBytes b
-unfolding arcBytes flatMap
-bytes-append [] b = refl
-bytes-append (x ∷ a) b = ap {B = List ℕ} (λ zs. x .0 ∷ x .1 ∷ zs) (bytes-append a b)
-
-pub bytes-length : (a : List Arc) → length (arcBytes a) ≡ 2 * length a
-unfolding arcBytes flatMap
-bytes-length [] = refl
-bytes-length (x ∷ a) = omega (arith, bytes-length a)
 
 sets-append : (l : List ℕ) (i : ℕ) (a b : List ℕ) → sets l i (a ++ b) ≡ sets (sets l i a) (i + length a) b
 sets-append l i [] b = let e : i + 0 ≡ i = omega arith in rw e
@@ -157,7 +148,7 @@ module _ (u at : ℕ) (row before : List ℕ) where
 
   module _ (area : List ℕ) (k : ℕ) (rest : List ℕ) (c : Lined u at row before area k rest) where
     pub lined-end
-        : any (has rest) (below 128) ≡ false
+        : exists (has rest) (below 128) ≡ false
         → (k ≡ at + 2 * length (members row)) × (area ≡ sets before at (arcBytes (rowPairs u row)))
     unfolding arcBytes flatMap
     lined-end h =
@@ -167,7 +158,7 @@ module _ (u at : ℕ) (row before : List ℕ) where
     pub lined-fits : (v : ℕ) → Least rest v → at + 2 * length (members row) ≤ length before → k + 1 < length area
     lined-fits v least h = omega (arith, c .room, c .size, members-some rest v least)
 
-    module _ (v : ℕ) (least : Least rest v) (others : List ℕ) (without : (x : ℕ) → has others x ≡ (has rest x && any (has rest) (below x))) where
+    module _ (v : ℕ) (least : Least rest v) (others : List ℕ) (without : (x : ℕ) → has others x ≡ (has rest x && exists (has rest) (below x))) where
       pub lined-next : Lined u at row before (set (set area k u) (k + 1) v) (k + 2) others
       unfolding arcBytes flatMap
       lined-next =
@@ -179,3 +170,34 @@ module _ (u at : ℕ) (row before : List ℕ) where
             room = omega (arith, c .room, ap length (members-step rest others v least without));
             size = length-set (set area k u) (k + 1) v ∙ length-set area k u ∙ c .size;
           }
+
+-- a row that is written one half after the other
+module _ (u : ℕ) (row low : List ℕ) (l : (v : ℕ) → has low v ≡ (has row v && ltb v 64)) (at : ℕ) (before : List ℕ) where
+  pub halves-fit : at + 2 * length (members row) ≤ length before → at + 2 * length (members low) ≤ length before
+  halves-fit m = omega (arith, ap length (members-low row low l) ∙ length-append (members low) (keep (has row) (upFrom 64 64)))
+
+  module _ (high : List ℕ) (h : (v : ℕ) → has high v ≡ (has row v && not (ltb v 64))) where
+    halves-count : length (members row) ≡ length (members low) + length (members high)
+    halves-count = ap length (members-halves row low l high h) ∙ length-append (members low) (members high)
+
+    module _ (area : List ℕ) (next : ℕ) (p : next ≡ at + 2 * length (members low)) (q : area ≡ sets before at (arcBytes (rowPairs u low))) where
+      pub halves-fit-later : at + 2 * length (members row) ≤ length before → next + 2 * length (members high) ≤ length area
+      halves-fit-later m = omega (arith, halves-count, ap length q ∙ length-sets before at (arcBytes (rowPairs u low)))
+
+      pub halves-end
+          : (area′ : List ℕ) (end : ℕ) → end ≡ next + 2 * length (members high) → area′ ≡ sets area next (arcBytes (rowPairs u high))
+          → (end ≡ at + 2 * length (members row)) × (area′ ≡ sets before at (arcBytes (rowPairs u row)))
+      halves-end area′ end d e = (
+        omega (arith, halves-count),
+        e ∙ ap₂ (λ a k. sets a k (arcBytes (rowPairs u high))) q place
+            ∙ sym (sets-append before at (arcBytes (rowPairs u low)) (arcBytes (rowPairs u high)))
+            ∙ ap (sets before at) (sym (bytes-append (rowPairs u low) (rowPairs u high)) ∙ ap arcBytes (sym pairs)),
+      )
+        where
+          place : next ≡ at + length (arcBytes (rowPairs u low))
+          place = omega (arith, bytes-length (rowPairs u low), row-length u low)
+
+          pairs : rowPairs u row ≡ rowPairs u low ++ rowPairs u high
+          pairs =
+              ap (map {B = Arc} (λ v. (u, v))) (members-halves row low l high h)
+              ∙ map-append (λ v. (u, v)) (members low) (members high)

@@ -11,8 +11,8 @@ use mathlib.Core.Logic.{⊎-elim}
 use lib.Dec.{ltb}
 use lib.ListN.{length}
 use borrow.Author.Tests.{lt-ltb, le-ltb}
-use Rattle.poset.specs.Lists.{any, keep, upFrom, below, first, onlyIf}
-use Rattle.poset.proofs.Laws.{decided, any-hit, any-none, keep-yes, keep-not, below-mem, mem-below}
+use Rattle.poset.specs.Lists.{exists, keep, upFrom, below, first, onlyIf}
+use Rattle.poset.proofs.Laws.{decided, any-hit, any-none, any-append, keep-yes, keep-not, below-mem, mem-below}
 use Rattle.poset.proofs.Laws.{first-here, first-later, found-or-none, found-clash, only-if-some, only-if-none}
 use Rattle.poset.proofs.Searches.{first-none, none-first}
 
@@ -37,10 +37,6 @@ not-or true b c = refl
 not-or false true c = refl
 not-or false false c = refl
 
-pub or-assoc : (a b c : Bool) → ((a || b) || c) ≡ (a || (b || c))
-or-assoc true b c = refl
-or-assoc false b c = refl
-
 module _ {ℓ} {A : Type ℓ} (p : A → Bool) where
   pub keep-append : (xs ys : List A) → keep p (xs ++ ys) ≡ keep p xs ++ keep p ys
   unfolding keep
@@ -56,24 +52,7 @@ module _ {ℓ} {A : Type ℓ} (p : A → Bool) where
   keep-none [] h = refl
   keep-none (x ∷ xs) h = keep-not p x xs (h x (List·Memᴰ·head refl)) ∙ keep-none xs (λ y m. h y (List·Memᴰ·tail m))
 
-  -- two tests that agree on a list
   module _ (q : A → Bool) where
-    pub keep-agree : (xs : List A) → ((x : A) → List·Memᴰ x xs → p x ≡ q x) → keep p xs ≡ keep q xs
-    unfolding keep
-    keep-agree [] h = refl
-    keep-agree (x ∷ xs) h =
-        ⊎-elim
-        (λ (e : p x ≡ true).
-        rw (keep-yes p x xs e, keep-yes q x xs (sym here ∙ e)) (ap {B = List A} (λ zs. x ∷ zs) (keep-agree xs rest)))
-        (λ (e : p x ≡ false). rw (keep-not p x xs e, keep-not q x xs (sym here ∙ e)) (keep-agree xs rest))
-        (decided (p x))
-      where
-        here : p x ≡ q x
-        here = h x (List·Memᴰ·head refl)
-
-        rest : (y : A) → List·Memᴰ y xs → p y ≡ q y
-        rest y m = h y (List·Memᴰ·tail m)
-
     -- a test that passes less keeps no more
     pub keep-fewer : ((x : A) → p x ≡ true → q x ≡ true) → (xs : List A) → length (keep p xs) ≤ length (keep q xs)
     unfolding keep
@@ -175,6 +154,14 @@ pub below-add : (m n : ℕ) → below (m + n) ≡ below m ++ upFrom m n
 unfolding below
 below-add m n = let e : 0 + m ≡ m = omega arith in rw (upFrom-add 0 m n, e)
 
+pub any-next : (p : ℕ → Bool) (u : ℕ) → exists p (below (u + 1)) ≡ (exists p (below u) || p u)
+unfolding exists upFrom
+any-next p u = ap (exists p) (below-add u 1) ∙ any-append p (below u) (u ∷ []) ∙ ap (λ (b : Bool). exists p (below u) || b) (itself (p u))
+  where
+    itself : (b : Bool) → _≡_ {A = Bool} (elim b [ true ↦ true | false ↦ false ]) b
+    itself true = refl
+    itself false = refl
+
 pub keep-shift : (p : ℕ → Bool) (j k n : ℕ) → keep p (upFrom (j + k) n) ≡ map (λ i. j + i) (keep (λ i. p (j + i)) (upFrom k n))
 unfolding keep upFrom
 keep-shift p j k zero = refl
@@ -192,7 +179,7 @@ keep-shift p j k (suc n) =
 -- the first of the numbers below n that a test keeps
 
 module _ (p : ℕ → Bool) (z : ℕ) (clear : (i : ℕ) → i < z → p i ≡ false) where
-  pub any-after : p z ≡ true → (v : ℕ) → any p (below v) ≡ ltb z v
+  pub any-after : p z ≡ true → (v : ℕ) → exists p (below v) ≡ ltb z v
   any-after h v =
       elim (decLt z v) [
         | yes l ↦ any-hit p (below-mem l) h ∙ sym (lt-ltb z v l)

@@ -15,11 +15,11 @@ use lib.Seq.{getD-set-same, getD-set-other}
 use lib.Bits.{bitAnd, bitOr, or-add-and, and-le-l, and-le-r}
 use lib.Count.{trailingZeros, leadingZeros, ones, ones-le}
 use borrow.Author.Tests.{lt-ltb, le-ltb, eq-eqb, ne-eqb, ltb-true, eqb-true}
-use Rattle.poset.specs.Lists.{any, keep, upFrom, below}
+use Rattle.poset.specs.Lists.{exists, keep, upFrom, below}
 use Rattle.poset.proofs.Laws.{clash, false-unless, same-test, any-hit, any-found, any-miss, any-none}
-use Rattle.poset.proofs.Laws.{keep-yes, keep-not, keep-mem, mem-keep, below-mem, mem-below, mem-upFrom}
+use Rattle.poset.proofs.Laws.{keep-yes, keep-not, keep-mem, mem-keep, keep-agree, below-mem, mem-below, mem-upFrom}
 use Rattle.relation.specs.Table.{bit, has, members, Least, Greatest}
-use Rattle.relation.proofs.Lists.{and-true, and-false, and-comm, or-false, keep-append, keep-none, keep-agree, keep-shift, keep-from}
+use Rattle.relation.proofs.Lists.{and-true, and-false, and-comm, or-false, keep-append, keep-none, keep-shift, keep-from}
 use Rattle.relation.proofs.Lists.{below-add, any-after}
 use Rattle.relation.proofs.Words.{bit-tested, bit-and, bit-or, bit-complement, bit-zero, bit-power, bit-ones}
 use Rattle.relation.proofs.Words.{Lowest, lowest, Highest, highest, ones-count}
@@ -47,7 +47,7 @@ pub has-small : (s : List ℕ) → length s ≡ 2 → (v : ℕ) → has s v ≡ 
 has-small s n v e = elim (decLt v 128) [ yes l ↦ l | no l ↦ absurd (clash e (has-beyond s v n (omega arith))) ]
 
 -- a row with no job below 128 has none
-pub has-none : (s : List ℕ) → length s ≡ 2 → any (has s) (below 128) ≡ false → (v : ℕ) → has s v ≡ false
+pub has-none : (s : List ℕ) → length s ≡ 2 → exists (has s) (below 128) ≡ false → (v : ℕ) → has s v ≡ false
 has-none s n h v = false-unless _ (λ e. clash e (any-miss (has s) (below 128) h (below-mem (has-small s n v e))))
 
 -- a test of a job's bit in its word
@@ -195,14 +195,6 @@ module _ (s low : List ℕ) (l : (v : ℕ) → has low v ≡ (has s v && ltb v 6
           ∙ append-nil _
 
   module _ (high : List ℕ) (h : (v : ℕ) → has high v ≡ (has s v && not (ltb v 64))) where
-    pub half-or : (v : ℕ) → (has low v || has high v) ≡ has s v
-    half-or v = ap₂ _||_ (l v) (h v) ∙ by (has s v) (ltb v 64)
-      where
-        by : (a b : Bool) → ((a && b) || (a && not b)) ≡ a
-        by true true = refl
-        by true false = refl
-        by false b = refl
-
     pub members-halves : members s ≡ members low ++ members high
     members-halves = members-low ∙ ap (λ zs. members low ++ zs) (sym highs)
       where
@@ -222,7 +214,7 @@ pub record Row (s : List ℕ) : Type 0 where
   pub high : Fits w64 (getD s 1 0)
 
 -- a job that is not the smallest has a smaller one
-after-least : (s : List ℕ) (z : ℕ) → Least s z → (v : ℕ) → (has s v && not (eqb v z)) ≡ (has s v && any (has s) (below v))
+after-least : (s : List ℕ) (z : ℕ) → Least s z → (v : ℕ) → (has s v && not (eqb v z)) ≡ (has s v && exists (has s) (below v))
 after-least s z h v = by (decLt z v) ∙ ap (λ (b : Bool). has s v && b) (sym (any-after (has s) z (h .least) (h .member) v))
   where
     before : (v ≡ z) ⊎ (v < z) → (has s v && not (eqb v z)) ≡ (has s v && ltb z v)
@@ -235,7 +227,7 @@ after-least s z h v = by (decLt z v) ∙ ap (λ (b : Bool). has s v && b) (sym (
 
 -- a set without its smallest member
 pub without-least
-    : (s t : List ℕ) (z : ℕ) → Least s z → ((v : ℕ) → has t v ≡ (has s v && any (has s) (below v)))
+    : (s t : List ℕ) (z : ℕ) → Least s z → ((v : ℕ) → has t v ≡ (has s v && exists (has s) (below v)))
     → (v : ℕ) → has t v ≡ (has s v && not (eqb v z))
 without-least s t z h rest v = rest v ∙ sym (after-least s z h v)
 
@@ -256,7 +248,7 @@ module _ (s : List ℕ) (r : Row s) where
           least = λ u m. has-low s u (omega arith) ∙ first-word .1 .clear u m;
         }
 
-    pub rest-low : (v : ℕ) → has (bitAnd (getD s 0 0) (getD s 0 0 - 1) ∷ getD s 1 0 ∷ []) v ≡ (has s v && any (has s) (below v))
+    pub rest-low : (v : ℕ) → has (bitAnd (getD s 0 0) (getD s 0 0 - 1) ∷ getD s 1 0 ∷ []) v ≡ (has s v && exists (has s) (below v))
     rest-low v =
         row-of _ (getD s 1 0) (λ u. has s u && not (eqb u z)) low high beyond v ∙ after-least s z smallest-low v
       where
@@ -296,7 +288,7 @@ module _ (s : List ℕ) (r : Row s) where
                   ap (has s) (sym w) ∙ has-high s (u - 64) (omega (arith, second-word .0)) ∙ second-word .1 .clear (u - 64) (omega arith)
             ]
 
-    rest-high : (v : ℕ) → has (0 ∷ bitAnd (getD s 1 0) (getD s 1 0 - 1) ∷ []) v ≡ (has s v && any (has s) (below v))
+    rest-high : (v : ℕ) → has (0 ∷ bitAnd (getD s 1 0) (getD s 1 0 - 1) ∷ []) v ≡ (has s v && exists (has s) (below v))
     rest-high v =
         row-of 0 _ (λ u. has s u && not (eqb u (64 + z))) low high beyond v ∙ after-least s (64 + z) smallest-high v
       where
@@ -322,10 +314,10 @@ module _ (s : List ℕ) (r : Row s) where
       (λ i l. has-high s i l ∙ ap (λ (w : ℕ). bit w i) q ∙ bit-zero i)
       (λ v l. has-beyond s v (r .two) l)
 
-  least-found : (z : ℕ) → Least s z → any (has s) (below 128) ≡ true
+  least-found : (z : ℕ) → Least s z → exists (has s) (below 128) ≡ true
   least-found z h = any-hit (has s) (below-mem (h .small)) (h .member)
 
-  pub inhabited : not (eqb (bitOr (getD s 0 0) (getD s 1 0)) 0) ≡ any (has s) (below 128)
+  pub inhabited : not (eqb (bitOr (getD s 0 0) (getD s 1 0)) 0) ≡ exists (has s) (below 128)
   inhabited = by (ℕ-discrete (getD s 0 0) 0) (ℕ-discrete (getD s 1 0) 0)
     where
       x : ℕ
@@ -337,20 +329,20 @@ module _ (s : List ℕ) (r : Row s) where
       differs : (x + y ≡ 0 → ⊥) → not (eqb (bitOr x y) 0) ≡ true
       differs h = ap not (ne-eqb (bitOr x y) 0 (λ e. h (omega (arith, or-add-and x y, and-le-l x y, and-le-r x y))))
 
-      by : Dec (x ≡ 0) → Dec (y ≡ 0) → not (eqb (bitOr x y) 0) ≡ any (has s) (below 128)
+      by : Dec (x ≡ 0) → Dec (y ≡ 0) → not (eqb (bitOr x y) 0) ≡ exists (has s) (below 128)
       by (yes p) (yes q) = rw (p, q) (sym (any-none (has s) (below 128) (λ v _. empty p q v)))
       by (yes p) (no q) = differs (λ e. q (omega arith)) ∙ sym (least-found _ (smallest-high p q))
       by (no p) q = differs (λ e. p (omega arith)) ∙ sym (least-found _ (smallest-low p))
 
   -- so where the first word is 0 the second is not, and has the smallest member
-  module _ (h : any (has s) (below 128) ≡ true) (p : getD s 0 0 ≡ 0) where
+  module _ (h : exists (has s) (below 128) ≡ true) (p : getD s 0 0 ≡ 0) where
     pub second-some : getD s 1 0 ≡ 0 → ⊥
     second-some q = let f = any-found (has s) (below 128) h in clash (f .2) (empty p q (f .0))
 
     pub smallest-second : Least s (64 + trailingZeros 64 (getD s 1 0))
     smallest-second = smallest-high p second-some
 
-    pub rest-second : (v : ℕ) → has (0 ∷ bitAnd (getD s 1 0) (getD s 1 0 - 1) ∷ []) v ≡ (has s v && any (has s) (below v))
+    pub rest-second : (v : ℕ) → has (0 ∷ bitAnd (getD s 1 0) (getD s 1 0 - 1) ∷ []) v ≡ (has s v && exists (has s) (below v))
     rest-second = rest-high p second-some
 
   -- a word that is not 0 has its highest bit
@@ -416,7 +408,7 @@ unfolding members
 members-head s z h = members-from (has s) z (h .small) (h .least) ∙ keep-yes (has s) z (upFrom (suc z) (127 - z)) (h .member)
 
 pub members-step
-    : (s t : List ℕ) (z : ℕ) → Least s z → ((v : ℕ) → has t v ≡ (has s v && any (has s) (below v))) → members s ≡ z ∷ members t
+    : (s t : List ℕ) (z : ℕ) → Least s z → ((v : ℕ) → has t v ≡ (has s v && exists (has s) (below v))) → members s ≡ z ∷ members t
 unfolding members
 members-step s t z h rest =
     members-head s z h
@@ -432,17 +424,17 @@ members-step s t z h rest =
         sym (rest v ∙ ap (λ (b : Bool). has s v && b) some ∙ and-true (has s v))
 
     clear : (i : ℕ) → i < z → has t i ≡ false
-    clear i l = rest i ∙ ap (λ (b : Bool). b && any (has s) (below i)) (h .least i l)
+    clear i l = rest i ∙ ap (λ (b : Bool). b && exists (has s) (below i)) (h .least i l)
 
     gone : has t z ≡ false
     gone =
         rest z ∙ ap (λ (b : Bool). has s z && b) (any-none (has s) (below z) (λ i l. h .least i (mem-below z l))) ∙ and-false (has s z)
 
 pub members-less
-    : (s t : List ℕ) (z : ℕ) → Least s z → ((v : ℕ) → has t v ≡ (has s v && any (has s) (below v))) → length (members t) < length (members s)
+    : (s t : List ℕ) (z : ℕ) → Least s z → ((v : ℕ) → has t v ≡ (has s v && exists (has s) (below v))) → length (members t) < length (members s)
 members-less s t z h rest = omega (arith, ap length (members-step s t z h rest))
 
-pub members-end : (s : List ℕ) → any (has s) (below 128) ≡ false → members s ≡ []
+pub members-end : (s : List ℕ) → exists (has s) (below 128) ≡ false → members s ≡ []
 unfolding members
 members-end s h = keep-none (has s) (below 128) (λ v m. any-miss (has s) (below 128) h m)
 

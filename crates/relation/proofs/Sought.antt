@@ -8,7 +8,7 @@ use mathlib.Core.Option.{Option, none, some}
 use mathlib.Core.Logic.{⊎-elim}
 use lib.Dec.{eqb, ltb}
 use borrow.Author.Tests.{lt-ltb, ltb-true}
-use Rattle.poset.specs.Lists.{any, below, first, onlyIf}
+use Rattle.poset.specs.Lists.{exists, below, first, onlyIf}
 use Rattle.poset.specs.Order.{Rel, Four, incomparable, isN}
 use Rattle.poset.proofs.Laws.{clash, false-unless, and-left, and-right, and-intro}
 use Rattle.poset.proofs.Laws.{any-miss, any-none, below-mem, mem-below, first-here, first-later, found-or-none, only-if-none}
@@ -23,7 +23,7 @@ module _ {ℓ} {B : Type ℓ} (f : ℕ → Option B) (js : List ℕ) where
   Sought rest = first f js ≡ first f (members rest)
 
   module _ (rest : List ℕ) (s : Sought rest) where
-    pub sought-end : any (has rest) (below 128) ≡ false → none ≡ first f js
+    pub sought-end : exists (has rest) (below 128) ≡ false → none ≡ first f js
     unfolding first
     sought-end h = sym (s ∙ ap (first f) (members-end rest h))
 
@@ -32,7 +32,7 @@ module _ {ℓ} {B : Type ℓ} (f : ℕ → Option B) (js : List ℕ) where
       sought-hit h = sym (s ∙ ap (first f) (members-head rest z least) ∙ first-here f z _ h)
 
       pub sought-next
-          : (others : List ℕ) → ((v : ℕ) → has others v ≡ (has rest v && any (has rest) (below v))) → f z ≡ none → Sought others
+          : (others : List ℕ) → ((v : ℕ) → has others v ≡ (has rest v && exists (has rest) (below v))) → f z ≡ none → Sought others
       sought-next others without h = s ∙ ap (first f) (members-step rest others z least without) ∙ first-later f z _ h
 
 -- a search over a set, one half after the other
@@ -79,20 +79,20 @@ module _ (n : ℕ) (r : Rel) (u v : ℕ) where
 -- a search for a job whose row has a job of a set
 module _ (free : Rel) (ds : List ℕ) where
   abbrev pub meets : ℕ → Bool
-  meets c = any (λ d. has ds d && free c d) (below 128)
+  meets c = exists (λ d. has ds d && free c d) (below 128)
 
   abbrev pub meeting : ℕ → Option ℕ
   meeting c = onlyIf (meets c) c
 
   module _ (c : ℕ) (s : List ℕ) (h : (d : ℕ) → has s d ≡ (has ds d && free c d)) where
-    met : any (has s) (below 128) ≡ meets c
-    met = ap (λ p. any p (below 128)) (fun-ext h)
+    met : exists (has s) (below 128) ≡ meets c
+    met = ap (λ p. exists p (below 128)) (fun-ext h)
 
-    pub meeting-hit : any (has s) (below 128) ≡ true → meeting c ≡ some c
+    pub meeting-hit : exists (has s) (below 128) ≡ true → meeting c ≡ some c
     unfolding onlyIf
     meeting-hit e = rw (sym met ∙ e)
 
-    pub meeting-miss : any (has s) (below 128) ≡ false → meeting c ≡ none
+    pub meeting-miss : exists (has s) (below 128) ≡ false → meeting c ≡ none
     meeting-miss e = only-if-none _ _ .1 (sym met ∙ e)
 
 -- the tests of an N, at b, c and d
@@ -189,7 +189,7 @@ module _ (n : ℕ) (r : Rel) (a b : ℕ) (free : Rel) (cs ds : List ℕ) (p : Si
   misses c m = fourth-miss c (members-mem cs m .1)
 
   -- no job is after b and incomparable to a
-  pub no-fourth : any (has ds) (below 128) ≡ false → none ≡ at-b n r a b
+  pub no-fourth : exists (has ds) (below 128) ≡ false → none ≡ at-b n r a b
   no-fourth e =
       sym (sought-c ∙ none-first (at-c n r a b) (members cs)
       λ c m. misses c m (any-none (λ d. has ds d && free c d) (below 128) λ d k. ap (λ x. x && free c d) (any-miss (has ds) (below 128) e k)))
@@ -232,7 +232,7 @@ module _ (n : ℕ) (r : Rel) (a : ℕ) (bs : List ℕ) where
       }
 
   pub beside-next
-      : Beside n r a bs → (b : ℕ) → Least bs b → (others : List ℕ) → ((v : ℕ) → has others v ≡ (has bs v && any (has bs) (below v)))
+      : Beside n r a bs → (b : ℕ) → Least bs b → (others : List ℕ) → ((v : ℕ) → has others v ≡ (has bs v && exists (has bs) (below v)))
       → at-b n r a b ≡ none → Beside n r a others
   beside-next p b least others without h =
       record {

@@ -5,15 +5,17 @@ use native.Mathlib.Omega.{arith}
 use mathlib.Core.Path.{_≡_, refl, sym, ap, ap₂, fun-ext, _∙_}
 use mathlib.Core.List.{List, [], _∷_}
 use mathlib.Core.Bool.{Bool, true, false, _&&_, _||_}
-use lib.ListN.{length, getD}
-use Rattle.poset.specs.Lists.{any, below}
+use lib.ListN.{length, getD, replicate}
+use Rattle.poset.specs.Lists.{exists, below, upFrom}
 use Rattle.poset.specs.Order.{Rel, via}
-use Rattle.poset.proofs.Laws.{false-unless}
+use Rattle.poset.proofs.Laws.{clash, false-unless}
 use Rattle.poset.proofs.Closure.{via-step, via-ind}
-use Rattle.relation.specs.Table.{bit, has, holds, columns, Joins, Inside}
-use Rattle.relation.proofs.Lists.{and-false, or-false}
+use Rattle.relation.specs.Table.{bit, has, holds, Inside}
+use Rattle.relation.specs.Columns.{columns, Joins}
+use Rattle.relation.proofs.Lists.{and-false, or-false, any-next}
 use Rattle.relation.proofs.Sets.{has-none, job-ind}
 use Rattle.relation.proofs.Columns.{column-low, column-high, column-beyond}
+use Rattle.relation.proofs.Tables.{has-blank}
 
 -- Warshall's step on columns: what is before k is before all that k is before
 abbrev pub Step : List ℕ → List ℕ → ℕ → List ℕ → List ℕ → Type 0
@@ -21,7 +23,7 @@ Step low high k low′ high′ = (u v : ℕ) → columns low′ high′ u v ≡ 
 
 module _ (low high : List ℕ) (k : ℕ) where
   -- where the words of row k are 0 there is nothing to do
-  pub step-idle : any (has (getD low k 0 ∷ getD high k 0 ∷ [])) (below 128) ≡ false → Step low high k low high
+  pub step-idle : exists (has (getD low k 0 ∷ getD high k 0 ∷ [])) (below 128) ≡ false → Step low high k low high
   unfolding columns
   step-idle h u v =
       sym (ap (λ (b : Bool). columns low high u v || (columns low high u k && b)) (has-none (getD low k 0 ∷ getD high k 0 ∷ []) refl h v)
@@ -83,3 +85,32 @@ module _ (r : Rel) (n : ℕ) (low high : List ℕ) (k : ℕ) (p : Closed r low h
   closed-end l t same u v =
       let e : k ≡ n = omega arith in
       p .runs u v ∙ ap (λ (m : ℕ). via r m u v) e ∙ ap (λ q. via q n u v) (fun-ext λ x. fun-ext λ y. same x y)
+
+-- the range of a relation, row by row
+pub record Ranged (r : Rel) (jobs : List ℕ) (n u : ℕ) : Type 0 where
+  pub within : u ≤ n
+  pub reached : (v : ℕ) → has jobs v ≡ exists (λ x. r x v) (below u)
+
+module _ (r : Rel) (n : ℕ) where
+  pub ranged-none : Ranged r (replicate 2 0) n 0
+  unfolding exists below upFrom
+  ranged-none = record { within = omega arith; reached = has-blank }
+
+  pub ranged-next
+      : (jobs : List ℕ) (u : ℕ) → Ranged r jobs n u → u < n → (more : List ℕ) → ((v : ℕ) → has more v ≡ (has jobs v || r u v)) → Ranged r more n (u + 1)
+  ranged-next jobs u p l more h =
+      record { within = omega arith; reached = λ v. h v ∙ ap (λ (b : Bool). b || r u v) (p .reached v) ∙ sym (any-next (λ x. r x v) u) }
+
+  pub ranged-end : (jobs : List ℕ) (u : ℕ) → Ranged r jobs n u → n ≤ u → (v : ℕ) → has jobs v ≡ exists (λ x. r x v) (below n)
+  ranged-end jobs u p l v = let e : u ≡ n = omega (arith, p .within) in p .reached v ∙ ap (λ (m : ℕ). exists (λ x. r x v) (below m)) e
+
+-- a pass through a job that no job is before changes nothing
+module _ (r : Rel) (n : ℕ) (low high : List ℕ) (k : ℕ) (p : Closed r low high n k) where
+  pub closed-skip : (jobs : List ℕ) → ((u v : ℕ) → r u v ≡ true → has jobs v ≡ true) → k < n → has jobs k ≡ false → Closed r low high n (k + 1)
+  closed-skip jobs reached l h =
+      closed-next r n low high k p l low high (p .rows)
+      (λ u v. sym (ap (λ (b : Bool). columns low high u v || (b && columns low high k v)) (none u) ∙ or-false (columns low high u v)))
+    where
+      none : (u : ℕ) → columns low high u k ≡ false
+      none u =
+          false-unless _ (λ e. clash (via-ind r (λ x y. has jobs y ≡ true) reached (λ x w y a b. b) k u k (sym (p .runs u k) ∙ e)) h)

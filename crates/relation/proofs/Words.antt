@@ -4,13 +4,13 @@ use native.Mathlib.Nat.{div-one, div-eq-of-lt, le-div-iff-mul-le, div-lt-iff-lt-
 use native.Mathlib.Decide.{decLt}
 use native.Mathlib.Numerals.{one-add}
 use native.Mathlib.Omega.{arith}
-use mathlib.Core.Path.{_≡_, refl, sym, ap, fun-ext, _∙_}
+use mathlib.Core.Path.{_≡_, refl, sym, ap, ap₂, fun-ext, _∙_}
 use mathlib.Core.List.{map}
 use mathlib.Core.Bool.{Bool, true, false, _&&_, _||_, not}
 use mathlib.Core.Logic.{_⊎_, inl, inr, ⊎-elim}
 use lib.Dec.{eqb, ltb, eqb·zero-suc, eqb·suc-zero, eqb·suc-suc}
 use lib.Bits.{bitAnd, bitOr, and-shr, or-shr, and-mod, or-mod, and-mask}
-use lib.Pow.{pow-pos, pow-mono, ones-lt, shr-shr, shl-exact}
+use lib.Pow.{pow-pos, pow-lt, pow-mono, ones-lt, shr-shr, shl-shr, shl-exact, field, mod-mod-pow}
 use lib.Count.{trailingZeros, leadingZeros, leading-top, ones, ones-step}
 use borrow.Author.Tests.{lt-ltb, le-ltb}
 use lib.ListN.{length, length-map}
@@ -225,3 +225,46 @@ bit-tested w i = ap (λ (x : ℕ). eqb x 1) (and-mask (w / 2 ^ i) 1)
 
 pub one-shifted : (v : ℕ) → v < 64 → 1 * 2 ^ v % 2 ^ 64 ≡ 2 ^ v
 one-shifted v l = shl-exact {a = 1} 1 v 64 (omega arith) (omega arith) ∙ one-mul (2 ^ v)
+
+pub far-small : (e : ℕ) → e < 6 → 1 * 2 ^ e % 2 ^ 64 < 64
+far-small e l = rw (one-shifted e (omega arith)) (pow-lt {j = 6} l)
+
+-- shifted words, and a word put together from two
+
+pub bit-shr : (w k i : ℕ) → bit (w / 2 ^ k) i ≡ bit w (i + k)
+unfolding bit
+bit-shr w k i = let e : k + i ≡ i + k = omega arith in ap (λ (x : ℕ). eqb (x % 2) 1) (shr-shr w k i ∙ ap (λ (x : ℕ). w / 2 ^ x) e)
+
+pub bit-shl : (w k i : ℕ) → k ≤ i → i < 64 → bit (w * 2 ^ k % 2 ^ 64) i ≡ bit w (i - k)
+unfolding bit
+bit-shl w k i l m =
+    let e : 64 ≡ 63 - i + 1 + i = omega arith in
+    let d : i ≡ k + (i - k) = omega arith in
+    ap (λ (x : ℕ). eqb (x % 2) 1)
+    (ap (λ (x : ℕ). w * 2 ^ k % 2 ^ x / 2 ^ i) e ∙ field (w * 2 ^ k) (63 - i + 1) i)
+    ∙ ap (λ (x : ℕ). eqb x 1)
+    (mod-mod-pow (w * 2 ^ k / 2 ^ i) (63 - i) 1
+    ∙ ap (λ (x : ℕ). x % 2)
+    (ap (λ (x : ℕ). w * 2 ^ k / 2 ^ x) d ∙ sym (shr-shr (w * 2 ^ k) k (i - k)) ∙ ap (λ (x : ℕ). x / 2 ^ (i - k)) (shl-shr w k)))
+
+-- the bits of x where m has one, and those of y elsewhere
+module _ (x y m i : ℕ) (l : i < 64) (fits : m < 2 ^ 64) where
+  chosen : bit (bitOr (bitAnd x m) (bitAnd y (2 ^ 64 - 1 - m))) i ≡ ((bit x i && bit m i) || (bit y i && not (bit m i)))
+  chosen = bit-or _ _ i ∙ ap₂ _||_ (bit-and x m i) (bit-and y _ i ∙ ap (λ (b : Bool). bit y i && b) (bit-complement 64 i m l fits))
+
+  pub bit-chosen : bit m i ≡ true → bit (bitOr (bitAnd x m) (bitAnd y (2 ^ 64 - 1 - m))) i ≡ bit x i
+  bit-chosen e = chosen ∙ ap (λ (b : Bool). (bit x i && b) || (bit y i && not b)) e ∙ by (bit x i) (bit y i)
+    where
+      by : (a b : Bool) → ((a && true) || (b && false)) ≡ a
+      by true b = refl
+      by false true = refl
+      by false false = refl
+
+  pub bit-other : bit m i ≡ false → bit (bitOr (bitAnd x m) (bitAnd y (2 ^ 64 - 1 - m))) i ≡ bit y i
+  bit-other e = chosen ∙ ap (λ (b : Bool). (bit x i && b) || (bit y i && not b)) e ∙ by (bit x i) (bit y i)
+    where
+      by : (a b : Bool) → ((a && false) || (b && true)) ≡ b
+      by true true = refl
+      by true false = refl
+      by false true = refl
+      by false false = refl

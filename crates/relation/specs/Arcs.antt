@@ -1,6 +1,6 @@
--- Arcs as code holds them: a flat list of numbers going in, bytes going out, and what a search finds among them.
+-- Arcs in a flat list of numbers, and what a search finds among them.
 use Prim.Native.Nat.{ℕ, suc}
-use mathlib.Core.List.{List, [], _∷_, flatMap}
+use mathlib.Core.List.{List, [], _∷_}
 use mathlib.Core.Bool.{Bool, true, false, _||_}
 use mathlib.Core.Option.{Option, none, some}
 use lib.Dec.{eqb, leb}
@@ -31,10 +31,6 @@ outside n a = leb n (a .0) || leb n (a .1)
 -- the arc leads from a job to itself
 unfoldable pub loop : Arc → Bool
 loop a = eqb (a .0) (a .1)
-
--- two bytes for each arc
-unfoldable pub arcBytes : List Arc → List ℕ
-arcBytes = flatMap (λ a. a .0 ∷ a .1 ∷ [])
 
 abbrev pub found : Found → Option ℕ
 found (found-variants.At i) = some i

@@ -1,8 +1,8 @@
 -- A relation on the jobs below 128, held as a table of rows, each row two 64-bit words.
 use Prim.Native.Nat.{ℕ, _/_, _%_, _^_, _<_}
 use mathlib.Core.Path.{_≡_}
-use mathlib.Core.List.{List, [], _∷_}
-use mathlib.Core.Bool.{Bool, true, false, _&&_, _||_}
+use mathlib.Core.List.{List, []}
+use mathlib.Core.Bool.{Bool, true, false, _&&_}
 use lib.Dec.{eqb, ltb}
 use lib.ListN.{getD}
 use Rattle.poset.specs.Lists.{keep, below}
@@ -35,14 +35,6 @@ pub record Greatest (row : List ℕ) (v : ℕ) : Type 0 where
 -- the relation that a table holds
 unfoldable pub holds : List (List ℕ) → Rel
 holds t u v = has (getD t u []) v
-
--- the relation that two columns hold, one of the rows' first words and one of their second
-unfoldable pub columns : List ℕ → List ℕ → Rel
-columns low high u v = has (getD low u 0 ∷ getD high u 0 ∷ []) v
-
--- col′ is a column with the word a joined to each word beside which that of another column, test, has bit k
-abbrev pub Joins : List ℕ → ℕ → ℕ → List ℕ → List ℕ → Type 0
-Joins test k a col col′ = (u i : ℕ) → i < 64 → bit (getD col′ u 0) i ≡ (bit (getD col u 0) i || (bit (getD test u 0) k && bit a i))
 
 -- two incomparable jobs below n (Document 01: free)
 unfoldable pub apart : ℕ → Rel → Rel

@@ -4,6 +4,7 @@ pub mod order;
 pub mod reduction;
 pub mod search;
 pub mod set;
+mod turning;
 
 // Where a search found what it looked for.
 pub enum Found {

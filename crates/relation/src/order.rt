@@ -1,13 +1,15 @@
 //! The transitive closure of a table, and what is looked for in it.
 use crate::Found;
 use crate::set;
+use crate::turning;
 ghost use Prim.Native.Nat.{ℕ, _<_, _≤_};
 ghost use mathlib.Core.Path.{_≡_};
 ghost use mathlib.Core.Bool.{true, false, _&&_, _||_};
-ghost use lib.Dec.{eqb};
 ghost use lib.ListN.{length, getD};
+ghost use Rattle.poset.specs.Lists.{exists, below};
 ghost use Rattle.poset.specs.Order.{via, firstOnCycle};
-ghost use Rattle.relation.specs.Table.{bit, has, holds, columns, Joins, Inside};
+ghost use Rattle.relation.specs.Table.{bit, has, holds, Inside};
+ghost use Rattle.relation.specs.Columns.{columns, Joins};
 ghost use Rattle.relation.specs.Arcs.{found};
 
 // The words of the rows below n into two columns.
@@ -76,7 +78,21 @@ fn pass(low: &mut [u64; 128], high: &mut [u64; 128], k: usize, n: usize)
     }
 }
 
+// The range of a relation: the jobs that some job is before.
+fn range(t: &[[u64; 2]; 128], n: usize) -> [u64; 2]
+    requires { ⌜ n ≤ 128 ⌝ }
+    ensures { λ r. ⌜ ((v : ℕ) → has r v ≡ exists (λ u. holds (now (t .entry)) u v) (below n)) ⌝ }
+{
+    let mut jobs = [0u64; 2];
+    for u in 0..n {
+        let more = set::union(jobs, t[u]);
+        jobs = more;
+    }
+    jobs
+}
+
 // The transitive closure among the jobs below n (Warshall). Within, a column of words lies together, for several rows at a time.
+// A pass through a job that no job is before would change nothing.
 pub fn closure(t: [[u64; 2]; 128], n: usize) -> [[u64; 2]; 128]
     requires { ⌜ n ≤ 128 ⌝ }
     requires { ⌜ Inside n t ⌝ }
@@ -85,8 +101,11 @@ pub fn closure(t: [[u64; 2]; 128], n: usize) -> [[u64; 2]; 128]
     let mut low = [0u64; 128];
     let mut high = [0u64; 128];
     split(&t, &mut low, &mut high, n);
+    let reached = range(&t, n);
     for k in 0..n {
-        pass(&mut low, &mut high, k, n);
+        if set::contains(reached, k) {
+            pass(&mut low, &mut high, k, n);
+        }
     }
     table(&low, &high, n)
 }
@@ -104,33 +123,16 @@ pub fn first_on_cycle(t: &[[u64; 2]; 128], n: usize) -> Found
     Found::Nothing
 }
 
-// Job u into the rows of the jobs that are in the set.
-fn mark(t: &mut [[u64; 2]; 128], u: usize, jobs: [u64; 2])
-    requires { ⌜ (u < 128) × (length (now t) ≡ 128) ⌝ }
-    ensures { λ _. ⌜ length (now (t .exit)) ≡ 128 ⌝ }
-    ensures { λ _. ⌜ ((x v : ℕ) → holds (now (t .exit)) x v ≡ (holds (now (t .entry)) x v || (has jobs x && eqb u v))) ⌝ }
-{
-    let one = set::only(u);
-    let mut rest = jobs;
-    while set::inhabited(rest) {
-        let x = set::smallest(rest);
-        t[x] = set::union(t[x], one);
-        let others = set::without_smallest(rest);
-        rest = others;
-    }
-}
-
-// The relation the other way round.
+// The relation the other way round, by a step for each binary digit of the jobs' numbers.
 pub fn transposed(t: [[u64; 2]; 128], n: usize) -> [[u64; 2]; 128]
     requires { ⌜ n ≤ 128 ⌝ }
     requires { ⌜ Inside n t ⌝ }
     ensures { λ r. ⌜ ((u v : ℕ) → holds r u v ≡ holds t v u) ⌝ }
 {
-    let none = [0u64; 2];
-    let mut r = [none; 128];
-    for u in 0..n {
-        mark(&mut r, u, set::low(t[u]));
-        mark(&mut r, u, set::high(t[u]));
+    let w = turning::digits(n);
+    let mut r = t;
+    for e in 0..w {
+        turning::step(&mut r, e, w);
     }
     r
 }

@@ -6,7 +6,7 @@ ghost use Prim.Native.Nat.{ℕ, _<_, _≤_};
 ghost use mathlib.Core.Path.{_≡_};
 ghost use mathlib.Core.Bool.{true, _&&_};
 ghost use mathlib.Core.Option.{some};
-ghost use Rattle.poset.specs.Lists.{any, first, below, onlyIf};
+ghost use Rattle.poset.specs.Lists.{exists, first, below, onlyIf};
 ghost use Rattle.poset.specs.Order.{isN, firstN};
 ghost use Rattle.relation.specs.Table.{has, holds, members, apart, Inside};
 ghost use Rattle.relation.specs.Arcs.{found, foundFour};
@@ -29,7 +29,7 @@ fn incomparabilities(after: &[[u64; 2]; 128], under: &[[u64; 2]; 128], n: usize)
 
 // The smallest job of cs whose row has a job of ds.
 fn first_meeting(t: &[[u64; 2]; 128], cs: [u64; 2], ds: [u64; 2]) -> Found
-    ensures { λ r. ⌜ found r ≡ first (λ c. onlyIf (any (λ d. has ds d && holds (now (t .entry)) c d) (below 128)) c) (members cs) ⌝ }
+    ensures { λ r. ⌜ found r ≡ first (λ c. onlyIf (exists (λ d. has ds d && holds (now (t .entry)) c d) (below 128)) c) (members cs) ⌝ }
 {
     let mut rest = cs;
     while set::inhabited(rest) {
@@ -45,7 +45,7 @@ fn first_meeting(t: &[[u64; 2]; 128], cs: [u64; 2], ds: [u64; 2]) -> Found
 
 // As first_meeting, one word of cs after the other, which is quicker: the other word is known to be 0.
 fn first_by_words(t: &[[u64; 2]; 128], cs: [u64; 2], ds: [u64; 2]) -> Found
-    ensures { λ r. ⌜ found r ≡ first (λ c. onlyIf (any (λ d. has ds d && holds (now (t .entry)) c d) (below 128)) c) (members cs) ⌝ }
+    ensures { λ r. ⌜ found r ≡ first (λ c. onlyIf (exists (λ d. has ds d && holds (now (t .entry)) c d) (below 128)) c) (members cs) ⌝ }
 {
     let found = first_meeting(t, set::low(cs), ds);
     let Found::Nothing = found else {

@@ -4,7 +4,7 @@ ghost use Prim.Native.Nat.{ℕ, _<_, _≤_};
 ghost use mathlib.Core.Bool.{true, _&&_, _||_, not};
 ghost use lib.Dec.{eqb, ltb};
 ghost use lib.ListN.{length};
-ghost use Rattle.poset.specs.Lists.{any, below};
+ghost use Rattle.poset.specs.Lists.{exists, below};
 ghost use Rattle.relation.specs.Table.{bit, has, members, Least, Greatest};
 
 pub fn contains(s: [u64; 2], v: usize) -> bool
@@ -89,13 +89,13 @@ pub fn high(s: [u64; 2]) -> [u64; 2]
 
 // Whether there is a member.
 pub fn inhabited(s: [u64; 2]) -> bool
-    ensures { λ r. ⌜ r ≡ any (has s) (below 128) ⌝ }
+    ensures { λ r. ⌜ r ≡ exists (has s) (below 128) ⌝ }
 {
     s[0] | s[1] != 0
 }
 
 pub fn smallest(s: [u64; 2]) -> usize
-    requires { ⌜ any (has s) (below 128) ≡ true ⌝ }
+    requires { ⌜ exists (has s) (below 128) ≡ true ⌝ }
     ensures { λ r. ⌜ Least s r ⌝ }
 {
     if s[0] != 0 {
@@ -106,7 +106,7 @@ pub fn smallest(s: [u64; 2]) -> usize
 }
 
 pub fn largest(s: [u64; 2]) -> usize
-    requires { ⌜ any (has s) (below 128) ≡ true ⌝ }
+    requires { ⌜ exists (has s) (below 128) ≡ true ⌝ }
     ensures { λ r. ⌜ Greatest s r ⌝ }
 {
     if s[1] != 0 {
@@ -118,8 +118,8 @@ pub fn largest(s: [u64; 2]) -> usize
 
 // All members but the smallest.
 pub fn without_smallest(s: [u64; 2]) -> [u64; 2]
-    requires { ⌜ any (has s) (below 128) ≡ true ⌝ }
-    ensures { λ r. ⌜ ((v : ℕ) → has r v ≡ (has s v && any (has s) (below v))) ⌝ }
+    requires { ⌜ exists (has s) (below 128) ≡ true ⌝ }
+    ensures { λ r. ⌜ ((v : ℕ) → has r v ≡ (has s v && exists (has s) (below v))) ⌝ }
 {
     if s[0] != 0 {
         [s[0] & (s[0] - 1), s[1]]

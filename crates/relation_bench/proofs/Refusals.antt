@@ -9,11 +9,11 @@ use lib.Dec.{leb}
 use lib.ListN.{length}
 use borrow.Author.Tests.{leb-true, le-leb, lt-leb}
 use Rattle.poset.specs.Order.{Arc, Within, Strict, before, covers, pairsOf, reduction, firstN}
-use Rattle.poset.specs.Areas.{overlay}
+use Rattle.poset.specs.Areas.{overlay, arcBytes}
 use Rattle.poset.proofs.Laws.{clash, and-left, and-right}
 use Rattle.poset.proofs.Closure.{before-is-strict}
 use Rattle.relation.specs.Table.{holds}
-use Rattle.relation.specs.Arcs.{arcBytes, place, outside}
+use Rattle.relation.specs.Arcs.{place, outside}
 use Rattle.relation.proofs.Chain.{outside-none}
 use Rattle.relation_bench.specs.Steps.{nothing, fits, acyclic, reducedArcs, packed, packedN}
 

@@ -9,9 +9,9 @@ ghost use Prim.Native.Nat.{_≤_};
 ghost use mathlib.Core.Path.{_≡_};
 ghost use lib.ListN.{length};
 ghost use Rattle.poset.specs.Order.{Within, before, firstN};
-ghost use Rattle.poset.specs.Areas.{overlay};
+ghost use Rattle.poset.specs.Areas.{overlay, arcBytes};
 ghost use Rattle.relation.specs.Table.{holds, Inside};
-ghost use Rattle.relation.specs.Arcs.{pairs, arcBytes};
+ghost use Rattle.relation.specs.Arcs.{pairs};
 ghost use Rattle.relation_bench.specs.Steps.{fits, acyclic, reducedArcs, packed, packedN};
 
 // Whether there are at most 128 jobs and the arcs name them alone.
@@ -62,7 +62,7 @@ pub extern "C" fn bench_reduce(arcs: &[u16], n: u16, area: &mut [u8]) -> usize
     if !acyclic(&after, jobs) {
         return 0;
     }
-    let covers = reduction::reduced(after, jobs);
+    let covers = reduction::reduced(&after, jobs);
     let count = reduction::pair_count(&covers, jobs);
     if area.len() / 2 < count {
         return 0;

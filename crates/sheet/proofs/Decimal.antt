@@ -1,14 +1,15 @@
 -- Digits, and the decimal digits of a number.
 use Prim.Native.Nat.{ℕ, zero, suc, _+_, _-_, _*_, _/_, _%_, _≤_, _<_}
 use mathlib.Core.Path.{_≡_, refl, sym, ap, ap₂, _∙_}
-use mathlib.Core.List.{List, [], _∷_, _++_}
+use mathlib.Core.List.{List, [], _∷_, _++_, List·Memᴰ, List·Memᴰ·cases-cons, List·Memᴰ·not-nil}
 use mathlib.Core.Bool.{true}
 use mathlib.Core.Logic.{_⊎_, inl, inr, ⊎-elim}
 use native.Mathlib.Omega.{arith}
+use native.Mathlib.Decide.{decLt}
 use lib.Dec.{leb, ltb, eqb}
 use borrow.Author.Tests.{lt-ltb, le-ltb, le-leb, leb-true, ltb-true, eqb-false, ne-eqb, eq-eqb}
 use Rattle.poset.proofs.Laws.{and-left, and-right, and-intro, or-cases, or-left, or-right, not-true, not-false, eqb-true}
-use Rattle.sheet.specs.Text.{decimal}
+use Rattle.sheet.specs.Text.{lineEnd, decimal}
 use Rattle.sheet.specs.Scan.{digitFits, withDigit}
 
 -- a number's digits by its size
@@ -122,3 +123,28 @@ hand-digit b (two {v} p q) g =
     }
 hand-digit b (three {v} p q) g =
     absurd (⊎-elim (λ (e : _≡_ {A = ℕ} 3 0). omega arith) (λ (e : (3 < 3) × (v ≡ 0 → ⊥)). omega (arith, e .0)) (g .goes))
+
+-- no digit is a line feed
+
+clean-digit : (x : ℕ) (l : List ℕ) → (List·Memᴰ lineEnd l → ⊥) → List·Memᴰ lineEnd ((48 + x) ∷ l) → ⊥
+unfolding lineEnd
+clean-digit x l h m = ⊎-elim (λ (e : 10 ≡ 48 + x). omega arith) h (List·Memᴰ·cases-cons m)
+
+pub clean-decimal : (x : ℕ) → List·Memᴰ lineEnd (decimal x) → ⊥
+clean-decimal x =
+    elim (decLt x 10) [
+      | yes p ↦ rw (decimal-one x p) (clean-digit x [] List·Memᴰ·not-nil)
+      | no p ↦
+          elim (decLt x 100) [
+            | yes q ↦ rw (decimal-two x (omega arith) q) (clean-digit (x / 10) ((48 + x % 10) ∷ []) (clean-digit (x % 10) [] List·Memᴰ·not-nil))
+            | no q ↦
+                rw (decimal-three x (omega arith))
+                (clean-digit (x / 100) ((48 + x / 10 % 10) ∷ (48 + x % 10) ∷ [])
+                (clean-digit (x / 10 % 10) ((48 + x % 10) ∷ []) (clean-digit (x % 10) [] List·Memᴰ·not-nil)))
+          ]
+    ]
+
+pub clean-hand : (d v : ℕ) → List·Memᴰ lineEnd (inHand d v) → ⊥
+unfolding inHand
+clean-hand zero v = List·Memᴰ·not-nil
+clean-hand (suc d) v = clean-decimal v

@@ -2,7 +2,7 @@
 use Prim.Native.Nat.{ℕ, zero, suc, suc-le-suc, _+_, _-_, _*_, _/_, _%_, _<_}
 use mathlib.Core.Path.{_≡_, refl, sym, ap, ap₂, subst, _∙_}
 use mathlib.Core.List.{List, [], _∷_, _++_, append-assoc, append-nil}
-use mathlib.Core.List.{List·Memᴰ·head, List·Memᴰ·tail, List·Memᴰ·append-cases, List·Memᴰ·not-nil, List·Memᴰ·eq-of-singleton}
+use mathlib.Core.List.{List·Memᴰ, List·Memᴰ·head, List·Memᴰ·tail, List·Memᴰ·append-cases, List·Memᴰ·not-nil, List·Memᴰ·eq-of-singleton}
 use mathlib.Core.Bool.{true, false}
 use mathlib.Core.Logic.{_⊎_, inl, inr, ⊎-elim, _↔_}
 use native.Mathlib.Omega.{arith}
@@ -11,11 +11,11 @@ use lib.Dec.{eqb}
 use lib.ListN.{length, take}
 use Rattle.poset.specs.Order.{Arc, Within}
 use Rattle.poset.proofs.Laws.{decided, eqb-true}
-use Rattle.sheet.specs.Text.{lineEnd, space, decimal, lines, text, LineForm, Continues}
-use Rattle.sheet.specs.Scan.{Field, countField, firstField, secondField, Read, sheet, broken, digitFits, withDigit}
+use Rattle.sheet.specs.Text.{lineEnd, space, decimal, lines, text, LineForm, Begins, Continues}
+use Rattle.sheet.specs.Scan.{Field, countField, firstField, secondField, Read, sheet, broken, arcsAhead, digitFits, withDigit}
 use Rattle.sheet.specs.Scan.{ending, endsNumber, ended, stopped, scanFrom, scan}
 use Rattle.sheet.proofs.Decimal.{decimal-one, decimal-two, decimal-three, digit-read, digit-fits}
-use Rattle.sheet.proofs.Decimal.{Hand, none, inHand, hand-digit, Taken, hand-none, hand-some, hand-small}
+use Rattle.sheet.proofs.Decimal.{Hand, none, inHand, hand-digit, Taken, hand-none, hand-some, hand-small, clean-decimal, clean-hand}
 use Rattle.sheet.proofs.Scanning.{scan-digit, scan-fault, scan-ending, Ends, byte-cases, apart}
 
 -- From a scan to the text.
@@ -62,58 +62,89 @@ module _ (n : ℕ) (arcs : List Arc) (d at : ℕ) where
   unfolding stopped
   stopped-yes t = rw (t, stopped)
 
-  stopped-not : eqb d 0 ≡ false → stopped (firstField n arcs) d at ≡ broken at
+  stopped-not : eqb d 0 ≡ false → stopped (firstField n arcs) d at ≡ broken at arcs
   unfolding stopped
   stopped-not t = rw (t, stopped)
 
-module _ (n : ℕ) (arcs : List Arc) where
-  stopped-form : (f : Field) (d v at : ℕ) → SmallAhead f → stopped f d at ≡ sheet n arcs → LineForm (ahead f ++ inHand d v ++ []) n arcs
-  unfolding stopped ahead
-  stopped-form countField d v at s e = absurd (apart e refl)
-  stopped-form (firstField n′ arcs′) d v at s e =
-      ⊎-elim
-      (λ (t : eqb d 0 ≡ true). whole (eqb-true d 0 t) (sym (stopped-yes n′ arcs′ d at t) ∙ e))
-      (λ (t : eqb d 0 ≡ false). absurd (apart e (stopped-not n′ arcs′ d at t)))
-      (decided (eqb d 0))
-    where
-      whole : d ≡ 0 → sheet n′ arcs′ ≡ sheet n arcs → LineForm (text n′ arcs′ ++ inHand d v ++ []) n arcs
-      whole z q =
-          let p₁ : n′ ≡ n = cc in
-          let p₂ : arcs′ ≡ arcs = cc in
-          record {
-            count = omega (arith, s .0);
-            small = subst (Within 1000) p₂ (s .1);
-            written = rw (hand-none d v z) (simp append-nil (ap₂ text p₁ p₂));
-          }
-  stopped-form (secondField n′ arcs′ u) d v at s e = absurd (apart e refl)
+-- a line goes on to its line feed
+clean-second : (u d v : ℕ) → List·Memᴰ lineEnd ((decimal u ++ (space ∷ [])) ++ inHand d v) → ⊥
+unfolding lineEnd space
+clean-second u d v m =
+    ⊎-elim
+    (λ k. ⊎-elim (clean-decimal u) (λ l. let e : _≡_ {A = ℕ} 10 32 = List·Memᴰ·eq-of-singleton l in omega arith) (List·Memᴰ·append-cases (decimal u) k))
+    (clean-hand d v)
+    (List·Memᴰ·append-cases (decimal u ++ (space ∷ [])) m)
 
-  scanned
-      : (s : List ℕ) (f : Field) (d v at : ℕ) → SmallAhead f → Hand d v → scanFrom f d v at s ≡ sheet n arcs
-      → LineForm (ahead f ++ inHand d v ++ s) n arcs
-  unfolding scanFrom
-  scanned [] f d v at small h e = stopped-form f d v at small e
-  scanned (b ∷ bs) f d v at small h e =
-      ⊎-elim
-      (λ g. digit g (hand-digit b h (digit-read d v b g)) (λ k q. scanned bs f (d + 1) (withDigit v b) (at + 1) small k q))
-      (⊎-elim
-      (λ g. ends g (λ q. scanned bs (ended f v) 0 0 (at + 1) (small-ended f v small (hand-small h)) none q))
-      (λ g. absurd (apart e (scan-fault f d v at b bs (g .0) (g .1)))))
-      (byte-cases f d v b)
-    where
-      digit
-          : digitFits d v b ≡ true → Taken d v b
-          → (Hand (d + 1) (withDigit v b) → scanFrom f (d + 1) (withDigit v b) (at + 1) bs ≡ sheet n arcs
-          → LineForm (ahead f ++ inHand (d + 1) (withDigit v b) ++ bs) n arcs)
-          → LineForm (ahead f ++ inHand d v ++ b ∷ bs) n arcs
-      digit g t ih = subst (λ (l : List ℕ). LineForm l n arcs) (rw (t .written) (simp append-assoc)) (ih (t .hand) (sym (scan-digit f d v at b bs g) ∙ e))
+begun : (f : Field) (d v : ℕ) → SmallAhead f → Begins (ahead f ++ inHand d v) (arcsAhead f)
+unfolding ahead arcsAhead
+begun countField d v s = ([], inHand d v, refl, clean-hand d v, inl (refl, refl))
+begun (firstField n arcs) d v s =
+    (text n arcs, inHand d v, refl, clean-hand d v, inr (n, record { count = s .0; small = s .1; written = refl }))
+begun (secondField n arcs u) d v s = (
+  text n arcs,
+  (decimal u ++ (space ∷ [])) ++ inHand d v,
+  append-assoc (text n arcs) (decimal u ++ (space ∷ [])) (inHand d v),
+  clean-second u d v,
+  inr (n, record { count = s .0; small = s .1; written = refl }),
+)
 
-      ends
-          : Ends f d b → (scanFrom (ended f v) 0 0 (at + 1) bs ≡ sheet n arcs → LineForm (ahead (ended f v) ++ inHand 0 0 ++ bs) n arcs)
-          → LineForm (ahead f ++ inHand d v ++ b ∷ bs) n arcs
-      ends g ih =
-          subst (λ (l : List ℕ). LineForm l n arcs)
-          (rw (ahead-ended f v, hand-none 0 0 refl, hand-some h (g .some), g .byte) (simp (append-assoc, append-nil)))
-          (ih (sym (scan-ending f d v at b bs g) ∙ e))
+-- what a scan from the place `at` tells of the bytes: with those ahead of it they are a text, or begin as one up to the fault
+abbrev Tells : List ℕ → ℕ → List ℕ → Read → Type 0
+Tells head at s (sheet n arcs) = LineForm (head ++ s) n arcs
+Tells head at s (broken p arcs) = (k : ℕ) × (p ≡ at + k) × Begins (head ++ take k s) arcs
+
+tells-fault : (f : Field) (d v at : ℕ) (s : List ℕ) → SmallAhead f → Tells (ahead f ++ inHand d v) at s (broken at (arcsAhead f))
+tells-fault f d v at s small = (0, omega arith, subst (λ (l : List ℕ). Begins l (arcsAhead f)) (sym (append-nil _)) (begun f d v small))
+
+tells-later
+    : (head next : List ℕ) (at b : ℕ) (bs : List ℕ) (r : Read) → next ≡ head ++ (b ∷ []) → Tells next (at + 1) bs r → Tells head at (b ∷ bs) r
+tells-later head next at b bs (sheet n arcs) e t = subst (λ (l : List ℕ). LineForm l n arcs) (rw e (append-assoc head (b ∷ []) bs)) t
+tells-later head next at b bs (broken p arcs) e (k, q, t) =
+    (suc k, omega arith, subst (λ (l : List ℕ). Begins l arcs) (rw e (append-assoc head (b ∷ []) (take k bs))) t)
+
+tells-stopped : (f : Field) (d v at : ℕ) → SmallAhead f → Tells (ahead f ++ inHand d v) at [] (stopped f d at)
+unfolding stopped ahead arcsAhead
+tells-stopped countField d v at s = tells-fault countField d v at [] s
+tells-stopped (firstField n arcs) d v at s =
+    ⊎-elim
+    (λ (t : eqb d 0 ≡ true).
+    subst (Tells (text n arcs ++ inHand d v) at []) (sym (stopped-yes n arcs d at t))
+    (record { count = s .0; small = s .1; written = rw (hand-none d v (eqb-true d 0 t)) (simp append-nil) }))
+    (λ (t : eqb d 0 ≡ false).
+    subst (Tells (text n arcs ++ inHand d v) at []) (sym (stopped-not n arcs d at t)) (tells-fault (firstField n arcs) d v at [] s))
+    (decided (eqb d 0))
+tells-stopped (secondField n arcs u) d v at s = tells-fault (secondField n arcs u) d v at [] s
+
+scanned : (s : List ℕ) (f : Field) (d v at : ℕ) → SmallAhead f → Hand d v → Tells (ahead f ++ inHand d v) at s (scanFrom f d v at s)
+unfolding scanFrom
+scanned [] f d v at small h = tells-stopped f d v at small
+scanned (b ∷ bs) f d v at small h =
+    ⊎-elim
+    (λ g. digit g (hand-digit b h (digit-read d v b g)) (λ k. scanned bs f (d + 1) (withDigit v b) (at + 1) small k))
+    (⊎-elim
+    (λ g. ends g (scanned bs (ended f v) 0 0 (at + 1) (small-ended f v small (hand-small h)) none))
+    (λ g. subst (Tells head at (b ∷ bs)) (sym (scan-fault f d v at b bs (g .0) (g .1))) (tells-fault f d v at (b ∷ bs) small)))
+    (byte-cases f d v b)
+  where
+    head : List ℕ
+    head = ahead f ++ inHand d v
+
+    digit
+        : digitFits d v b ≡ true → Taken d v b
+        → (Hand (d + 1) (withDigit v b) → Tells (ahead f ++ inHand (d + 1) (withDigit v b)) (at + 1) bs (scanFrom f (d + 1) (withDigit v b) (at + 1) bs))
+        → Tells head at (b ∷ bs) (scanFrom f d v at (b ∷ bs))
+    digit g t ih =
+        subst (Tells head at (b ∷ bs)) (sym (scan-digit f d v at b bs g))
+        (tells-later head (ahead f ++ inHand (d + 1) (withDigit v b)) at b bs (scanFrom f (d + 1) (withDigit v b) (at + 1) bs)
+        (rw (t .written) (sym (append-assoc (ahead f) (inHand d v) (b ∷ [])))) (ih (t .hand)))
+
+    ends
+        : Ends f d b → Tells (ahead (ended f v) ++ inHand 0 0) (at + 1) bs (scanFrom (ended f v) 0 0 (at + 1) bs)
+        → Tells head at (b ∷ bs) (scanFrom f d v at (b ∷ bs))
+    ends g t =
+        subst (Tells head at (b ∷ bs)) (sym (scan-ending f d v at b bs g))
+        (tells-later head (ahead (ended f v) ++ inHand 0 0) at b bs (scanFrom (ended f v) 0 0 (at + 1) bs)
+        (rw (ahead-ended f v, hand-none 0 0 refl, hand-some h (g .some), g .byte) (simp (append-assoc, append-nil))) t)
 
 -- From the text to a scan.
 
@@ -179,7 +210,7 @@ scan-text n arcs h w = scan-number countField n (lines arcs) (sheet n arcs) (λ 
 pub scan-sheet : (s : List ℕ) (n : ℕ) (arcs : List Arc) → (scan s ≡ sheet n arcs) ↔ LineForm s n arcs
 unfolding scan ahead
 scan-sheet s n arcs = (
-  λ e. subst (λ (l : List ℕ). LineForm l n arcs) (rw (hand-none 0 0 refl)) (scanned n arcs s countField 0 0 0 tt none e),
+  λ e. subst (λ (l : List ℕ). LineForm l n arcs) (rw (hand-none 0 0 refl)) (subst (Tells _ 0 s) e (scanned s countField 0 0 0 tt none)),
   λ l. ap scan (l .written) ∙ scan-text n arcs (l .count) (l .small),
 )
 
@@ -240,7 +271,7 @@ fault-later f f′ d v d′ v′ at p b bs step t = record {
       (t .stops);
 }
 
-stopped-place : (f : Field) (d at p : ℕ) → stopped f d at ≡ broken p → p ≡ at
+stopped-place : (f : Field) (d at p : ℕ) {read : List Arc} → stopped f d at ≡ broken p read → p ≡ at
 unfolding stopped
 stopped-place countField d at p e = cc
 stopped-place (secondField n arcs u) d at p e = cc
@@ -250,7 +281,7 @@ stopped-place (firstField n arcs) d at p e =
     (λ (t : eqb d 0 ≡ false). let q = sym (stopped-not n arcs d at t) ∙ e in cc)
     (decided (eqb d 0))
 
-fault : (s : List ℕ) (f : Field) (d v at p : ℕ) → scanFrom f d v at s ≡ broken p → Fault f d v at p s
+fault : (s : List ℕ) (f : Field) (d v at p : ℕ) {read : List Arc} → scanFrom f d v at s ≡ broken p read → Fault f d v at p s
 unfolding scanFrom
 fault [] f d v at p e =
     let t = finish f d v in
@@ -282,11 +313,11 @@ fault (b ∷ bs) f d v at p e =
         }
 
 pub scan-place
-    : (s : List ℕ) (p : ℕ) → scan s ≡ broken p
+    : (s : List ℕ) (p : ℕ) (read : List Arc) → scan s ≡ broken p read
     → Continues (take p s)
     × (((p < length s) × (Continues (take (p + 1) s) → ⊥)) ⊎ ((p ≡ length s) × ((n : ℕ) (arcs : List Arc) → LineForm s n arcs → ⊥)))
 unfolding scan
-scan-place s p e =
+scan-place s p read e =
     let t = fault s countField 0 0 0 p e in
     let k : t .passed ≡ p = omega (arith, t .place) in
     let k₁ : p + 1 ≡ suc (t .passed) = omega (arith, t .place) in (
@@ -296,3 +327,11 @@ scan-place s p e =
           (λ h. inr (omega (arith, h), λ n arcs l. apart (scan-sheet s n arcs .1 l) e))
           (t .stops),
     )
+
+-- the arcs that are read ahead of a fault
+pub scan-ahead : (s : List ℕ) (p : ℕ) (read : List Arc) → scan s ≡ broken p read → Begins (take p s) read
+unfolding scan ahead
+scan-ahead s p read e =
+    let t = subst (Tells _ 0 s) e (scanned s countField 0 0 0 tt none) in
+    let k : t .0 ≡ p = omega (arith, t .1) in
+    subst (λ (x : ℕ). Begins (take x s) read) k (subst (λ (l : List ℕ). Begins (l ++ take (t .0) s) read) (hand-none 0 0 refl) (t .2))

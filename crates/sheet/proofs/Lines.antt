@@ -7,9 +7,9 @@ use lib.ListN.{length, take, drop, length-append, length-drop, drop-of-length-le
 use lib.Seq.{take-all}
 use Rattle.poset.specs.Order.{Arc}
 use Rattle.sheet.specs.Text.{lineEnd}
-use Rattle.sheet.specs.Scan.{countField, firstField, Read, broken, ending, ended, stopped, scanFrom, scan}
+use Rattle.sheet.specs.Scan.{countField, firstField, Read, broken, arcsAhead, ending, ended, stopped, scanFrom, scan}
 use Rattle.sheet.specs.Reading.{ReadsNumber, ReadsArc}
-use Rattle.sheet.specs.Listing.{listing, AddsArc, resultOf, Answers}
+use Rattle.sheet.specs.Listing.{listing, AddsArc, resultOf, arcsOf, Answers}
 use Rattle.sheet.specs.declared.line.Part.the-variants as part
 use Rattle.sheet.specs.declared.line.Line.the-variants as line
 use Rattle.sheet.specs.declared.SheetRead.{SheetRead}
@@ -54,7 +54,7 @@ module _ {s : List ℕ} {start n : ℕ} {held list : List ℕ} {at m : ℕ} (g :
   }
 
   pub going-done : length s ≤ at → Answers (scanFrom (firstField n []) 0 0 start s) held (Sheet n m) list
-  unfolding resultOf scanFrom stopped
+  unfolding resultOf arcsOf scanFrom stopped
   going-done h =
       subst (λ (x : Read). Answers x held (Sheet n m) list)
       (sym (g .scans ∙ ap (scanFrom (firstField n (g .arcs)) 0 0 (start + at)) (drop-of-length-le s h)))
@@ -62,11 +62,11 @@ module _ {s : List ℕ} {start n : ℕ} {held list : List ℕ} {at m : ℕ} (g :
 
   pub going-broken
       : {place : ℕ} → ReadsArc s at (line.Broken place) → Answers (scanFrom (firstField n []) 0 0 start s) held (Broken (start + place)) list
-  unfolding resultOf
+  unfolding resultOf arcsOf
   going-broken {place} r =
       subst (λ (x : Read). Answers x held (Broken (start + place)) list)
       (sym (g .scans ∙ r .scans start n (g .arcs)))
-      (record { result = refl; listed = going-length })
+      (record { result = refl; listed = g .listed })
 
 -- The sheet from its count line on.
 
@@ -92,9 +92,9 @@ module _ {s held : List ℕ} where
       subst (λ (x : Read). Answers x held r list) (ap (scanFrom (firstField n []) 0 0 (last + 1)) e ∙ sym (count-read n last c))
 
   pub answers-broken : {place : ℕ} → ReadsNumber lineEnd s 0 (part.Broken place) → Answers (scan s) held (Broken place) held
-  unfolding scan ending resultOf
+  unfolding scan ending resultOf arcsOf arcsAhead
   answers-broken {place} c =
       let e : 0 + place ≡ place = omega arith in
       subst (λ (x : Read). Answers x held (Broken place) held)
-      (sym (c .scans countField refl 0 ∙ ap broken e))
-      (record { result = refl; listed = refl })
+      (sym (c .scans countField refl 0 ∙ ap (λ (x : ℕ). broken x []) e))
+      (record { result = refl; listed = listing-none held })

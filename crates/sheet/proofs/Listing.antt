@@ -1,46 +1,37 @@
 -- Arcs listed over what a list held.
 use Prim.Native.Nat.{ℕ, suc, _+_, _*_, _/_, _≤_, _<_, min}
 use mathlib.Core.Path.{_≡_, refl, sym, ap, _∙_}
-use mathlib.Core.List.{List, [], _∷_, _++_, append-assoc}
+use mathlib.Core.List.{List, [], _∷_, _++_, append-assoc, flatMap}
 use native.Mathlib.Omega.{arith}
 use lib.ListN.{length, take, drop, set, length-append, length-take, length-drop, getD}
 use lib.Seq.{take-all, take-at, take-append-le, drop-cons, set-at, append-snoc, take-nil}
 use Rattle.poset.specs.Order.{Arc}
-use Rattle.sheet.specs.Listing.{numbers, listing, AddsArc}
-use Rattle.poset.specs.Areas.{overlay}
-
-pub numbers-length : (arcs : List Arc) → length (numbers arcs) ≡ 2 * length arcs
-unfolding numbers
-numbers-length [] = refl
-numbers-length (a ∷ arcs) = omega (arith, numbers-length arcs)
-
-numbers-append : (xs ys : List Arc) → numbers (xs ++ ys) ≡ numbers xs ++ numbers ys
-unfolding numbers
-numbers-append [] ys = refl
-numbers-append (a ∷ xs) ys = ap (λ (l : List ℕ). a .0 ∷ a .1 ∷ l) (numbers-append xs ys)
+use Rattle.sheet.specs.Listing.{listing, AddsArc}
+use Rattle.poset.specs.Areas.{overlay, arcBytes}
+use Rattle.poset.proofs.Areas.{bytes-append, bytes-length}
 
 pub listing-length : (arcs : List Arc) (held : List ℕ) → length (listing arcs held) ≡ length held
 unfolding listing overlay
 listing-length arcs held =
     let k : ℕ = length held / 2 in
-    let w : List ℕ = numbers (take k arcs) in
-    let e : length w ≡ 2 * min k (length arcs) = numbers-length (take k arcs) ∙ ap (λ (x : ℕ). 2 * x) (length-take k arcs) in
+    let w : List ℕ = arcBytes (take k arcs) in
+    let e : length w ≡ 2 * min k (length arcs) = bytes-length (take k arcs) ∙ ap (λ (x : ℕ). 2 * x) (length-take k arcs) in
     omega (arith, e, length-append w (drop (length w) held), length-drop (length w) held)
 
 -- with no arcs the list is as it was
 pub listing-none : (held : List ℕ) → held ≡ listing [] held
-unfolding listing overlay numbers
-listing-none held = ap (λ (l : List Arc). numbers l ++ drop (length (numbers l)) held) (sym (take-nil (length held / 2)))
+unfolding listing overlay arcBytes flatMap
+listing-none held = ap (λ (l : List Arc). arcBytes l ++ drop (length (arcBytes l)) held) (sym (take-nil (length held / 2)))
 
 -- arcs that all have room
 pub listing-fits
     : (arcs : List Arc) (held : List ℕ) (k : ℕ) → k ≡ 2 * length arcs → length arcs ≤ length held / 2
-    → listing arcs held ≡ numbers arcs ++ drop k held
+    → listing arcs held ≡ arcBytes arcs ++ drop k held
 unfolding listing overlay
-listing-fits arcs held k e h = rw (take-all (length held / 2) arcs h, numbers-length arcs, e)
+listing-fits arcs held k e h = rw (take-all (length held / 2) arcs h, bytes-length arcs, e)
 
-pub listing-front : (arcs : List Arc) (held : List ℕ) → length arcs ≤ length held / 2 → take (2 * length arcs) (listing arcs held) ≡ numbers arcs
-listing-front arcs held h = rw (listing-fits arcs held (2 * length arcs) refl h) (take-at _ _ _ (numbers-length arcs))
+pub listing-front : (arcs : List Arc) (held : List ℕ) → length arcs ≤ length held / 2 → take (2 * length arcs) (listing arcs held) ≡ arcBytes arcs
+listing-front arcs held h = rw (listing-fits arcs held (2 * length arcs) refl h) (take-at _ _ _ (bytes-length arcs))
 
 module _ (i u v : ℕ) where
   two-sets
@@ -55,16 +46,16 @@ module _ (i u v : ℕ) where
   adds-none entry h = record {
     adds = λ arcs held e l.
         let k : length held / 2 ≤ length arcs = omega (arith, listing-length arcs held, ap (λ (x : List ℕ). length x) l) in
-        l ∙ ap (λ (x : List Arc). overlay (numbers x) held) (sym (take-append-le (length held / 2) arcs ((u, v) ∷ []) k));
+        l ∙ ap (λ (x : List Arc). overlay (arcBytes x) held) (sym (take-append-le (length held / 2) arcs ((u, v) ∷ []) k));
   }
 
   pub adds-room : (entry : List ℕ) → i < length entry / 2 → AddsArc i u v entry (set (set entry (2 * i) u) (2 * i + 1) v)
-  unfolding numbers
+  unfolding arcBytes flatMap
   adds-room entry h = record {
     adds = λ arcs held e l.
         let n : length held ≡ length entry = omega (arith, listing-length arcs held, ap (λ (x : List ℕ). length x) l) in
         let k : ℕ = 2 * i in
-        let w : List ℕ = numbers arcs in
+        let w : List ℕ = arcBytes arcs in
         let rest : List ℕ = drop (suc (suc k)) held in
         let e₁ : drop k held ≡ getD held k 0 ∷ getD held (suc k) 0 ∷ rest =
         drop-cons held k 0 (omega arith) ∙ ap (λ (t : List ℕ). getD held k 0 ∷ t) (drop-cons held (suc k) 0 (omega arith)) in
@@ -72,7 +63,7 @@ module _ (i u v : ℕ) where
         l ∙ listing-fits arcs held k (omega arith) (omega arith) ∙ ap (λ (t : List ℕ). w ++ t) e₁ in
         let e₃ : length (arcs ++ ((u, v) ∷ [])) ≡ suc i = omega (arith, length-append arcs ((u, v) ∷ [])) in
         ap (λ (t : List ℕ). set (set t k u) (k + 1) v) e₂
-        ∙ two-sets w (getD held k 0) (getD held (suc k) 0) rest k (omega (arith, numbers-length arcs))
-        ∙ ap (λ (t : List ℕ). t ++ rest) (sym (numbers-append arcs ((u, v) ∷ [])))
+        ∙ two-sets w (getD held k 0) (getD held (suc k) 0) rest k (omega (arith, bytes-length arcs))
+        ∙ ap (λ (t : List ℕ). t ++ rest) (sym (bytes-append arcs ((u, v) ∷ [])))
         ∙ sym (listing-fits (arcs ++ ((u, v) ∷ [])) held (suc (suc k)) (omega arith) (omega arith));
   }

@@ -14,7 +14,7 @@ use borrow.Author.Tests.{lt-ltb, le-ltb, eq-eqb, ne-eqb}
 use Rattle.poset.specs.Order.{Arc}
 use Rattle.poset.proofs.Laws.{decided, clash, and-left, and-right, and-intro, false-unless, eqb-true, ltb-true}
 use Rattle.sheet.specs.Text.{lineEnd, space}
-use Rattle.sheet.specs.Scan.{Field, countField, firstField, secondField, broken, digitFits, ending, ended, stopped, scanFrom}
+use Rattle.sheet.specs.Scan.{Field, countField, firstField, secondField, broken, arcsAhead, digitFits, ending, ended, stopped, scanFrom}
 use Rattle.sheet.specs.Reading.{numeralAt, isAt, endAt, ReadsNumber, ReadsArc}
 use Rattle.sheet.specs.declared.number.Numeral.{Numeral}
 use Rattle.sheet.specs.declared.line.End.the-variants as end
@@ -25,8 +25,8 @@ use Rattle.sheet.proofs.Numeral.{digits, Numbered, numbered}
 
 -- What stands after a number.
 
-stopped-broken : (f : Field) (d at : ℕ) → (d ≡ 0 → ⊥) ⊎ (ending f ≡ lineEnd) → stopped f d at ≡ broken at
-unfolding stopped ending lineEnd space
+stopped-broken : (f : Field) (d at : ℕ) → (d ≡ 0 → ⊥) ⊎ (ending f ≡ lineEnd) → stopped f d at ≡ broken at (arcsAhead f)
+unfolding stopped arcsAhead ending lineEnd space
 stopped-broken countField d at h = refl
 stopped-broken (secondField n arcs u) d at h = refl
 stopped-broken (firstField n arcs) d at h = rw (ne-eqb d 0 (⊎-elim (λ k. k) (λ k e. omega arith) h), stopped)
@@ -55,7 +55,7 @@ module _ (f : Field) (d v p q : ℕ) (s : List ℕ) where
 
   at-fault
       : digitFits d v (getD s q 0) ≡ false → (d ≡ 0) ⊎ (isAt s q (ending f) ≡ false) → (q < length s) ⊎ ((d ≡ 0 → ⊥) ⊎ (ending f ≡ lineEnd))
-      → scanFrom f d v p (drop q s) ≡ broken p
+      → scanFrom f d v p (drop q s) ≡ broken p (arcsAhead f)
   unfolding scanFrom
   at-fault full e h =
       elim (decLt q (length s)) [
@@ -103,13 +103,13 @@ module _ (byte : ℕ) (s : List ℕ) (at : ℕ) (x : Numeral) (ex : x ≡ numera
   pub reads-none : x .next ≡ at → at ≤ length s → (at < length s) ⊎ (byte ≡ lineEnd) → ReadsNumber byte s at (part.Broken at)
   reads-none e w h = record { scans = λ f ef start. none f ef start (is-numbered f start); within = w }
     where
-      none : (f : Field) → ending f ≡ byte → (start : ℕ) → Numbered s at f start x → scanFrom f 0 0 (start + at) (drop at s) ≡ broken (start + at)
+      none : (f : Field) → ending f ≡ byte → (start : ℕ) → Numbered s at f start x → scanFrom f 0 0 (start + at) (drop at s) ≡ broken (start + at) (arcsAhead f)
       none f ef start t =
           let z : digits s at ≡ 0 = omega (arith, t .next) in
           t .scans
           ∙ at-fault f (digits s at) (x .value) (start + x .next) (x .next) s (t .full) (inl z)
           (⊎-elim (λ k. inl (omega (arith, k, e))) (λ k. inr (inr (ef ∙ k))) h)
-          ∙ ap (λ (q : ℕ). broken (start + q)) e
+          ∙ ap (λ (q : ℕ). broken (start + q) (arcsAhead f)) e
 
   pub reads-ended : (x .next ≡ at → ⊥) → isAt s (x .next) byte ≡ true → ReadsNumber byte s at (part.Number (x .value) (x .next))
   reads-ended z e = record {
@@ -159,12 +159,12 @@ module _ {s : List ℕ} {at : ℕ} where
   }
 
   pub reads-no-first : {p : ℕ} → ReadsNumber space s at (part.Broken p) → ReadsArc s at (line.Broken p)
-  unfolding ending ended
+  unfolding ending ended arcsAhead
   reads-no-first r = record { scans = λ start n arcs. r .scans (firstField n arcs) refl start; within = r .within }
 
   pub reads-no-second
       : {u k p : ℕ} → ReadsNumber space s at (part.Number u k) → ReadsNumber lineEnd s (k + 1) (part.Broken p) → ReadsArc s at (line.Broken p)
-  unfolding ending ended
+  unfolding ending ended arcsAhead
   reads-no-second {u} r q = record {
     scans = λ start n arcs. r .scans (firstField n arcs) refl start ∙ q .scans (secondField n arcs u) refl start;
     within = q .within;

@@ -10,11 +10,12 @@ use borrow.Author.Tests.{eqb-false, ne-eqb, eq-eqb}
 use Rattle.poset.specs.Order.{Arc}
 use Rattle.poset.proofs.Laws.{decided, and-left, and-right, and-intro, not-true, not-false, eqb-true, false-unless}
 use Rattle.sheet.specs.Text.{lineEnd, space}
-use Rattle.sheet.specs.Scan.{Field, countField, firstField, secondField, Read, digitFits, withDigit, ending, endsNumber, ended, scanFrom, sheet, broken}
+use Rattle.sheet.specs.Scan.{Field, countField, firstField, secondField, Read, sheet, broken}
+use Rattle.sheet.specs.Scan.{digitFits, withDigit, arcsAhead, ending, endsNumber, ended, scanFrom}
 use Rattle.sheet.proofs.Decimal.{digit-read}
 
 -- no scan both gives a sheet and breaks
-pub apart : {r : Read} {n p : ℕ} {arcs : List Arc} → r ≡ sheet n arcs → r ≡ broken p → ⊥
+pub apart : {r : Read} {n p : ℕ} {arcs ahead : List Arc} → r ≡ sheet n arcs → r ≡ broken p ahead → ⊥
 apart e h = let z : _≡_ {A = ℕ} 0 1 = cc in omega arith
 
 module _ (f : Field) (d v at b : ℕ) (bs : List ℕ) where
@@ -26,7 +27,7 @@ module _ (f : Field) (d v at b : ℕ) (bs : List ℕ) where
   unfolding scanFrom
   scan-ended p q = rw (p, scanFrom) (rw q)
 
-  pub scan-fault : digitFits d v b ≡ false → endsNumber f d b ≡ false → scanFrom f d v at (b ∷ bs) ≡ broken at
+  pub scan-fault : digitFits d v b ≡ false → endsNumber f d b ≡ false → scanFrom f d v at (b ∷ bs) ≡ broken at (arcsAhead f)
   unfolding scanFrom
   scan-fault p q = rw (p, scanFrom) (rw q)
 

@@ -8,7 +8,7 @@ use lib.Dec.{ltb, eqb}
 use lib.ListN.{length, getD, drop}
 use Rattle.poset.specs.Order.{Arc}
 use Rattle.sheet.specs.Text.{lineEnd}
-use Rattle.sheet.specs.Scan.{Field, firstField, Read, broken, digitFits, withDigit, ending, ended, scanFrom}
+use Rattle.sheet.specs.Scan.{Field, firstField, Read, broken, arcsAhead, digitFits, withDigit, ending, ended, scanFrom}
 use Rattle.sheet.specs.declared.number.Numeral.{Numeral}
 use Rattle.sheet.specs.declared.line.End.{End}
 use Rattle.sheet.specs.declared.line.End.the-variants.{At, Broken}
@@ -45,7 +45,7 @@ endAt s at = elim (isAt s at lineEnd) [ true ↦ At at | false ↦ Broken at ]
 -- what a scan that starts at `start` comes to after a field's number
 abbrev pub afterNumber : List ℕ → ℕ → Field → Part → Read
 afterNumber s start f (part.Number value last) = scanFrom (ended f value) 0 0 (start + (last + 1)) (drop (last + 1) s)
-afterNumber s start f (part.Broken place) = broken (start + place)
+afterNumber s start f (part.Broken place) = broken (start + place) (arcsAhead f)
 
 abbrev pub NumberWithin : List ℕ → ℕ → Part → Type 0
 NumberWithin s at (part.Number value last) = (at ≤ last) × (last < length s)
@@ -59,7 +59,7 @@ pub record ReadsNumber (byte : ℕ) (s : List ℕ) (at : ℕ) (r : Part) : Type 
 -- what a scan that starts at `start` comes to after an arc
 abbrev pub afterArc : List ℕ → ℕ → ℕ → List Arc → Line → Read
 afterArc s start n arcs (line.Arc u v last) = scanFrom (firstField n (arcs ++ ((u, v) ∷ []))) 0 0 (start + (last + 1)) (drop (last + 1) s)
-afterArc s start n arcs (line.Broken place) = broken (start + place)
+afterArc s start n arcs (line.Broken place) = broken (start + place) arcs
 
 abbrev pub ArcWithin : List ℕ → ℕ → Line → Type 0
 ArcWithin s at (line.Arc u v last) = (at ≤ last) × (last < length s)

@@ -1,4 +1,4 @@
--- Reading a sheet byte by byte: its count and arcs, or the place where the line form breaks.
+-- Reading a sheet byte by byte: its count and arcs, or the place where the line form breaks and the arcs of the lines ahead of it.
 use Prim.Native.Nat.{ℕ, _+_, _-_, _*_}
 use mathlib.Core.List.{List, [], _∷_, _++_}
 use mathlib.Core.Bool.{Bool, true, false, _&&_, _||_, not}
@@ -14,7 +14,7 @@ pub data Field : Type 0 where
 
 pub data Read : Type 0 where
   sheet : ℕ → List Arc → Read
-  broken : ℕ → Read
+  broken : ℕ → List Arc → Read
 
 -- a number with this many digits read, of this value, goes on with the byte: as its first digit, or as one of three after no leading zero
 unfoldable pub digitFits : ℕ → ℕ → ℕ → Bool
@@ -22,6 +22,12 @@ digitFits digits value b = leb 48 b && (leb b 57 && (eqb digits 0 || (ltb digits
 
 unfoldable pub withDigit : ℕ → ℕ → ℕ
 withDigit value b = value * 10 + (b - 48)
+
+-- the arcs read ahead of a field
+unfoldable pub arcsAhead : Field → List Arc
+arcsAhead countField = []
+arcsAhead (firstField n arcs) = arcs
+arcsAhead (secondField n arcs u) = arcs
 
 -- the byte that ends the number in hand
 unfoldable pub ending : Field → ℕ
@@ -40,9 +46,9 @@ ended (secondField n arcs u) value = firstField n (arcs ++ ((u, value) ∷ []))
 
 -- where the bytes stop: a text may end only where a line may begin
 unfoldable pub stopped : Field → ℕ → ℕ → Read
-stopped countField digits at = broken at
-stopped (firstField n arcs) digits at = elim (eqb digits 0) [ true ↦ sheet n arcs | false ↦ broken at ]
-stopped (secondField n arcs u) digits at = broken at
+stopped countField digits at = broken at []
+stopped (firstField n arcs) digits at = elim (eqb digits 0) [ true ↦ sheet n arcs | false ↦ broken at arcs ]
+stopped (secondField n arcs u) digits at = broken at arcs
 
 -- the bytes from a place on, with so many digits read of a field's number, and their value
 unfoldable pub scanFrom : Field → ℕ → ℕ → ℕ → List ℕ → Read
@@ -50,7 +56,7 @@ scanFrom f digits value at [] = stopped f digits at
 scanFrom f digits value at (b ∷ bs) =
     elim (digitFits digits value b) [
       | true ↦ scanFrom f (digits + 1) (withDigit value b) (at + 1) bs
-      | false ↦ elim (endsNumber f digits b) [ true ↦ scanFrom (ended f value) 0 0 (at + 1) bs | false ↦ broken at ]
+      | false ↦ elim (endsNumber f digits b) [ true ↦ scanFrom (ended f value) 0 0 (at + 1) bs | false ↦ broken at (arcsAhead f) ]
     ]
 
 unfoldable pub scan : List ℕ → Read

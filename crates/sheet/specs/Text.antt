@@ -1,8 +1,9 @@
 -- What a sheet in the line form looks like. It has no limit of length of its own: any count of arcs has its text.
 use Prim.Native.Nat.{ℕ, _+_, _/_, _%_, _<_}
 use mathlib.Core.Path.{_≡_}
-use mathlib.Core.List.{List, [], _∷_, _++_}
+use mathlib.Core.List.{List, [], _∷_, _++_, List·Memᴰ}
 use mathlib.Core.Bool.{true, false}
+use mathlib.Core.Logic.{_⊎_}
 use lib.Dec.{ltb}
 use Rattle.poset.specs.Order.{Arc, Within}
 
@@ -40,6 +41,12 @@ pub record LineForm (s : List ℕ) (n : ℕ) (arcs : List Arc) : Type 0 where
   pub count : n < 1000
   pub small : Within 1000 arcs
   pub written : s ≡ text n arcs
+
+-- s is whole lines and a part of one more, with no line feed: the lines are the text of a count and these arcs, or there are none
+abbrev pub Begins : List ℕ → List Arc → Type 0
+Begins s arcs =
+    (whole part : List ℕ) × (s ≡ whole ++ part) × (List·Memᴰ lineEnd part → ⊥)
+    × (((whole ≡ []) × (arcs ≡ [])) ⊎ ((n : ℕ) × LineForm whole n arcs))
 
 -- some bytes after s make it a text of the line form
 abbrev pub Continues : List ℕ → Type 0

@@ -47,6 +47,7 @@ fn read_lines(s: &[u8], start: usize, count: u16, list: &mut [u16]) -> SheetRead
 }
 
 // Reads a sheet: its count, and its arcs into `list`, two numbers for each, as many as fit. All arcs are counted.
+// At a fault `list` has the arcs of the lines ahead of it.
 pub fn read_sheet(s: &[u8], list: &mut [u16]) -> SheetRead
     ensures { λ r. ⌜ Answers (scan (now (s .entry))) (now (list .entry)) r (now (list .exit)) ⌝ }
 {

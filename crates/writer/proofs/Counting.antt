@@ -5,7 +5,7 @@ use mathlib.Core.List.{List, [], _∷_, List·Memᴰ, List·Memᴰ·head, List·
 use mathlib.Core.Bool.{Bool, true, false, _&&_, _||_, not}
 use native.Mathlib.Omega.{arith}
 use lib.ListN.{length}
-use Rattle.poset.specs.Lists.{any, below}
+use Rattle.poset.specs.Lists.{exists, below}
 use Rattle.poset.proofs.Laws.{clash, false-unless, any-none, mem-below, below-mem}
 use Rattle.poset.proofs.Sums.{length-keep, bit, sum, sum-le, sum-add}
 use Rattle.relation.specs.Table.{has, members, Least}
@@ -62,21 +62,21 @@ step-lt false = omega arith
 -- a search has fewer jobs before it after each step
 pub search-falls : (near : ℕ → Bool) (todo rest found others more fewer : List ℕ) (y : ℕ) → Least todo y
     → ((v : ℕ) → has todo v ≡ true → has rest v ≡ false) → ((v : ℕ) → has found v ≡ (near v && has rest v))
-    → ((v : ℕ) → has others v ≡ (has todo v && any (has todo) (below v))) → ((v : ℕ) → has more v ≡ (has others v || has found v))
+    → ((v : ℕ) → has others v ≡ (has todo v && exists (has todo) (below v))) → ((v : ℕ) → has more v ≡ (has others v || has found v))
     → ((v : ℕ) → has fewer v ≡ (has rest v && not (has found v)))
     → length (members more) + length (members fewer) < length (members todo) + length (members rest)
 search-falls near todo rest found others more fewer y least apart f o m w = two-fall todo rest more fewer y (least .small) all here
   where
-    is-more : (v : ℕ) → has more v ≡ ((has todo v && any (has todo) (below v)) || (near v && has rest v))
+    is-more : (v : ℕ) → has more v ≡ ((has todo v && exists (has todo) (below v)) || (near v && has rest v))
     is-more v = m v ∙ ap₂ _||_ (o v) (f v)
 
     is-fewer : (v : ℕ) → has fewer v ≡ (has rest v && not (near v && has rest v))
     is-fewer v = w v ∙ ap (λ b. has rest v && not b) (f v)
 
     all : (v : ℕ) → bit (has more v) + bit (has fewer v) ≤ bit (has todo v) + bit (has rest v)
-    all v = rw (is-more v, is-fewer v) (step-le (has todo v) (any (has todo) (below v)) (near v) (has rest v) (apart v))
+    all v = rw (is-more v, is-fewer v) (step-le (has todo v) (exists (has todo) (below v)) (near v) (has rest v) (apart v))
 
-    nothing : any (has todo) (below y) ≡ false
+    nothing : exists (has todo) (below y) ≡ false
     nothing = any-none (has todo) (below y) (λ v k. least .least v (mem-below y k))
 
     here : bit (has more y) + bit (has fewer y) < bit (has todo y) + bit (has rest y)

@@ -13,7 +13,7 @@ use Rattle.poset.proofs.Laws.{decided, clash, false-unless, and-left, and-right
 use Rattle.poset.proofs.Sums.{length-keep, bit, sum, sum-add}
 use Rattle.relation.specs.Table.{has, members}
 use Rattle.record.specs.Layout.{kindBit}
-use Rattle.writer.specs.Parts.{Path, Splits, closeOf}
+use Rattle.writer.specs.Parts.{Walk, Splits, closeOf}
 use Rattle.writer.specs.Stack.{Entry, entries, jobsOf, startAt, spreadOut, setsOf, Absent, Apart, groupField}
 use Rattle.writer.specs.Tokens.{groupToken}
 use Rattle.writer.proofs.Worklist.{Pending, spread, total}
@@ -22,7 +22,7 @@ use Rattle.writer.proofs.Leads.{absent-append}
 
 -- a set whose jobs are all joined to one of them
 abbrev pub JoinedBy : Rel → List ℕ → Type 0
-JoinedBy close s = (x : ℕ) × (has s x ≡ true) × ((u : ℕ) → has s u ≡ true → Path close (λ v. has s v ≡ true) x u)
+JoinedBy close s = (x : ℕ) × (has s x ≡ true) × ((u : ℕ) → has s u ≡ true → Walk close (λ v. has s v ≡ true) x u)
 
 -- an entry is a set of jobs that its group's parent keeps together
 pub record EntryOk (n : ℕ) (tied free : Rel) (e : Entry) : Type 0 where

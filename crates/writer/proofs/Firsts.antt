@@ -6,7 +6,7 @@ use mathlib.Core.Bool.{Bool, true, false, _&&_}
 use mathlib.Core.Logic.{⊎-elim}
 use native.Mathlib.Omega.{arith}
 use lib.ListN.{length}
-use Rattle.poset.specs.Lists.{any, below}
+use Rattle.poset.specs.Lists.{exists, below}
 use Rattle.poset.specs.Order.{Rel}
 use Rattle.poset.proofs.Laws.{decided, clash, false-unless, and-left, and-right, and-intro}
 use Rattle.poset.proofs.Sums.{bit}
@@ -43,7 +43,7 @@ module _ (under : Rel) (s : List ℕ) (x : ℕ) (ahead : List ℕ) (d : Down und
           let yv = and-left (under y v) (has s v) (sym (f v) ∙ p) in
           d .before v ∙ and-intro (under x v) (has s v) (order .transitive x y v xy yv) (and-right (under y v) (has s v) (sym (f v) ∙ p))
 
-  pub down-end : Jobs s → any (has ahead) (below 128) ≡ false → First under s x
+  pub down-end : Jobs s → exists (has ahead) (below 128) ≡ false → First under s x
   down-end jobs e =
       let none = empty ahead (λ v p. jobs v (ahead-in v p)) e in
       record {

@@ -17,7 +17,7 @@ use Rattle.poset.proofs.Components.{Of, OfBlocks, Sorted}
 use Rattle.poset.proofs.Laying.{keep-sorted}
 use Rattle.poset.proofs.Decomposition.{below-sorted}
 use Rattle.relation.specs.Table.{has, members, Least}
-use Rattle.writer.specs.Parts.{Path, start, next, PartOf, First, StartsAt, Splits}
+use Rattle.writer.specs.Parts.{Walk, start, next, PartOf, First, StartsAt, Splits}
 use Rattle.writer.proofs.Reached.{Reached, reached-linked}
 use Rattle.writer.proofs.Peeling.{Piece, Pieces, piece-fewer, parallel-piece, series-piece, pieces-group}
 use Rattle.writer.proofs.Worklist.{GroupOf}
@@ -38,7 +38,7 @@ members-of s v l h = keep-mem (has s) (below-mem l) h
 
 -- whatever near jobs of S share, a path carries along
 path-carries : (close join : Rel) (S : ℕ → Type 0) → ((u v : ℕ) → S u → S v → close u v ≡ true → join u v ≡ true)
-    → (L : ℕ → Type 0) → Shared join S L → {x u : ℕ} → S x → L x → Path close S x u → S u × L u
+    → (L : ℕ → Type 0) → Shared join S L → {x u : ℕ} → S x → L x → Walk close S x u → S u × L u
 path-carries close join S same L share s h start = (s, h)
 path-carries close join S same L share s h (next {y = y} {v = v} p t e) =
     let (sy, ly) = path-carries close join S same L share s h p in
@@ -54,7 +54,7 @@ module _ (n : ℕ) (r close under : Rel) (strict : Strict n r) (few : n ≤ 128)
   Small s = (v : ℕ) → has s v ≡ true → v < n
 
   -- a set joined to one of its jobs is linked
-  pub joined-linked : (s : List ℕ) (x : ℕ) → Small s → has s x ≡ true → ((u : ℕ) → has s u ≡ true → Path close (λ v. has s v ≡ true) x u)
+  pub joined-linked : (s : List ℕ) (x : ℕ) → Small s → has s x ≡ true → ((u : ℕ) → has s u ≡ true → Walk close (λ v. has s v ≡ true) x u)
       → Linked (near (kindOf flag) r) (Of (members s))
   joined-linked s x small own joined =
       reached-linked (near (kindOf flag) r) x (Of (members s)) (near-sym (kindOf flag) r)

@@ -6,7 +6,7 @@ use mathlib.Core.Bool.{Bool, true, false}
 use mathlib.Core.Logic.{⊎-elim}
 use native.Mathlib.Omega.{arith}
 use lib.ListN.{length, drop, getD}
-use Rattle.poset.specs.Lists.{any, below, keep}
+use Rattle.poset.specs.Lists.{exists, below, keep}
 use Rattle.poset.proofs.Laws.{decided, clash, any-miss}
 use Rattle.poset.proofs.Components.{Of, Sorted}
 use Rattle.relation.specs.Table.{has, members, Least}
@@ -14,12 +14,12 @@ use Rattle.relation.proofs.Lists.{keep-none}
 use Rattle.writer.specs.Stack.{Entry, lead, setsOf, Absent, Apart, spreadOut}
 use Rattle.writer.proofs.Groups.{members-sorted, of-members, members-of}
 
-pub some-any : (s : List ℕ) → 0 < length (members s) → any (has s) (below 128) ≡ true
+pub some-any : (s : List ℕ) → 0 < length (members s) → exists (has s) (below 128) ≡ true
 unfolding members
 some-any s some =
     ⊎-elim (λ h. h)
     (λ h. absurd (omega (arith, ap length (keep-none (has s) (below 128) (λ v m. any-miss (has s) (below 128) h m)))))
-    (decided (any (has s) (below 128)))
+    (decided (exists (has s) (below 128)))
 
 module _ (s : List ℕ) where
   pub lead-member : 0 < length (members s) → has s (lead s) ≡ true

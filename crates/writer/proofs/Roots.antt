@@ -20,7 +20,7 @@ use Rattle.poset.proofs.Linked.{Linked}
 use Rattle.poset.proofs.Components.{Of, OfBlocks, Sorted}
 use Rattle.poset.proofs.Connected.{connected-n}
 use Rattle.relation.specs.Table.{has, members}
-use Rattle.writer.specs.Parts.{Path, start, next, Partial, PartOf, Splits, Cut, closeOf}
+use Rattle.writer.specs.Parts.{Walk, start, next, Partial, PartOf, Splits, Cut, closeOf}
 use Rattle.writer.specs.Stack.{Entry, jobsOf}
 use Rattle.writer.proofs.Searching.{path-within}
 use Rattle.writer.proofs.Groups.{kindOf, Alike, joined-linked, members-sorted, of-members}
@@ -138,7 +138,7 @@ module _ (n : ℕ) (pos : 0 < n) (few : n ≤ 128) (r tied free under : Rel) (st
       y-not : has p y ≡ false
       y-not = not-true (has p y) (and-right (has all y) (not (has p y)) (sym (f y) ∙ y-rest))
 
-      joins : (u : ℕ) → has all u ≡ true → Path tied (λ v. has all v ≡ true) x u
+      joins : (u : ℕ) → has all u ≡ true → Walk tied (λ v. has all v ≡ true) x u
       joins u au =
           ⊎-elim
           (λ pu.
@@ -174,12 +174,12 @@ pub tied-alike : (n : ℕ) (r tied under : Rel) → ((u v : ℕ) → under u v �
 unfolding comparable
 tied-alike n r tied under turned h u v lu lv = h u v lu ∙ ap (λ b. r u v || b) (turned u v)
 
-pub free-alike : (n : ℕ) (r tied free : Rel) → Alike n r tied false → ((u v : ℕ) → u < n → free u v ≡ (ltb v n && (not (eqb u v) && not (tied u v))))
-    → Alike n r free true
+pub free-alike : (n : ℕ) (r free under : Rel) → ((u v : ℕ) → under u v ≡ r v u)
+    → ((u v : ℕ) → u < n → free u v ≡ (ltb v n && (not (eqb u v) && not (r u v || under u v)))) → Alike n r free true
 unfolding comparable incomparable
-free-alike n r tied free same h u v lu lv =
+free-alike n r free under turned h u v lu lv =
     h u v lu
-    ∙ ap₂ (λ a b. a && (not (eqb u v) && not b)) (lt-true v n lv) (same u v lu lv)
+    ∙ ap₂ (λ a b. a && (not (eqb u v) && not (r u v || b))) (lt-true v n lv) (turned u v)
     ∙ ap (λ a. not (eqb u v) && a) (neither (r u v) (r v u))
   where
     neither : (a b : Bool) → not (a || b) ≡ (not a && not b)
@@ -209,14 +209,13 @@ pub record Tables (n : ℕ) (r under tied free : Rel) : Type 0 where
 
 pub tables : (n : ℕ) (r under tied free : Rel) → n ≤ 128 → Strict n r → ((u v : ℕ) → r u v ≡ true → (u < n) × (v < n))
     → ((u v : ℕ) → under u v ≡ r v u) → ((u v : ℕ) → u < n → tied u v ≡ (r u v || under u v))
-    → ((u v : ℕ) → u < n → free u v ≡ (ltb v n && (not (eqb u v) && not (tied u v)))) → Tables n r under tied free
+    → ((u v : ℕ) → u < n → free u v ≡ (ltb v n && (not (eqb u v) && not (r u v || under u v)))) → Tables n r under tied free
 tables n r under tied free few strict inside turned t f =
-    let same = tied-alike n r tied under turned t in
     record {
       few = few;
       strict = strict;
       turned = turned;
       partial = under-partial n r under strict inside turned;
-      tied-is = same;
-      free-is = free-alike n r tied free same f;
+      tied-is = tied-alike n r tied under turned t;
+      free-is = free-alike n r free under turned f;
     }

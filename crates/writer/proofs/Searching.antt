@@ -8,13 +8,13 @@ use native.Mathlib.Omega.{arith}
 use native.Mathlib.Decide.{ℕ-discrete, decLt}
 use lib.Dec.{eqb}
 use lib.ListN.{length}
-use Rattle.poset.specs.Lists.{any, below}
+use Rattle.poset.specs.Lists.{exists, below}
 use Rattle.poset.specs.Order.{Rel}
 use Rattle.poset.proofs.Laws.{decided, clash, false-unless, and-left, and-right, and-intro, or-cases, or-left, or-right}
 use Rattle.poset.proofs.Laws.{not-true, not-false, eqb-true, eqb-same, any-hit, any-none, any-miss, below-mem, mem-below}
 use Rattle.poset.proofs.Sums.{length-keep, bit, sum, sum-le}
 use Rattle.relation.specs.Table.{has, members, Least}
-use Rattle.writer.specs.Parts.{Path, start, next, PartOf, Jobs}
+use Rattle.writer.specs.Parts.{Walk, start, next, PartOf, Jobs}
 
 -- a job of s that is found
 abbrev Found : List ℕ → List ℕ → ℕ → Type 0
@@ -25,9 +25,9 @@ pub record Searching (near : Rel) (s : List ℕ) (x : ℕ) (todo rest : List ℕ
   pub todo-in : (v : ℕ) → has todo v ≡ true → Found s rest v
   pub own : Found s rest x
   pub looked : (u v : ℕ) → Found s rest u → has todo u ≡ false → has rest v ≡ true → near u v ≡ false
-  pub joined : (u : ℕ) → Found s rest u → Path near (Found s rest) x u
+  pub joined : (u : ℕ) → Found s rest u → Walk near (Found s rest) x u
 
-pub path-within : (near : Rel) (S R : ℕ → Type 0) → ((v : ℕ) → S v → R v) → {x u : ℕ} → Path near S x u → Path near R x u
+pub path-within : (near : Rel) (S R : ℕ → Type 0) → ((v : ℕ) → S v → R v) → {x u : ℕ} → Walk near S x u → Walk near R x u
 path-within near S R to start = start
 path-within near S R to (next {v = v} p s e) = next (path-within near S R to p) (to v s) e
 
@@ -49,7 +49,7 @@ module _ (near : Rel) (s : List ℕ) (x : ℕ) where
         todo-in = λ v p. is-x v (eqb-true x v (sym (t v) ∙ p));
         own = is-x x refl;
         looked = λ u v f away p. absurd (clash (mine u f) away);
-        joined = λ u f. subst (λ w. Path near (Found s rest) x w) (eqb-true x u (sym (t u) ∙ mine u f)) start;
+        joined = λ u f. subst (λ w. Walk near (Found s rest) x w) (eqb-true x u (sym (t u) ∙ mine u f)) start;
       }
     where
       not-rest : (v : ℕ) → has todo v ≡ true → has rest v ≡ false
@@ -66,7 +66,7 @@ module _ (near : Rel) (s : List ℕ) (x : ℕ) where
   -- y is looked at: what is near to it is found
   module _ (todo rest : List ℕ) (y : ℕ) (found others more fewer : List ℕ) (i : Searching near s x todo rest) (least : Least todo y)
       (f : (v : ℕ) → has found v ≡ (near y v && has rest v))
-      (o : (v : ℕ) → has others v ≡ (has todo v && any (has todo) (below v)))
+      (o : (v : ℕ) → has others v ≡ (has todo v && exists (has todo) (below v)))
       (m : (v : ℕ) → has more v ≡ (has others v || has found v))
       (w : (v : ℕ) → has fewer v ≡ (has rest v && not (has found v))) where
     y-found : Found s rest y
@@ -82,7 +82,7 @@ module _ (near : Rel) (s : List ℕ) (x : ℕ) where
     fewer-rest v p = but-true (has rest v) (has found v) (sym (w v) ∙ p) .0
 
     others-todo : (v : ℕ) → has others v ≡ true → has todo v ≡ true
-    others-todo v p = and-left (has todo v) (any (has todo) (below v)) (sym (o v) ∙ p)
+    others-todo v p = and-left (has todo v) (exists (has todo) (below v)) (sym (o v) ∙ p)
 
     old : (v : ℕ) → Found s rest v → Found s fewer v
     old v p = (p .0, false-unless (has fewer v) (λ q. clash (fewer-rest v q) (p .1)))
@@ -105,11 +105,11 @@ module _ (near : Rel) (s : List ℕ) (x : ℕ) where
     past u p =
         ⊎-elim
         (λ q. inr (same u q
-        (false-unless (any (has todo) (below u)) (λ a. clash (m u ∙ or-left (has others u) (has found u) (o u ∙ and-intro (has todo u) _ q a)) p))))
+        (false-unless (exists (has todo) (below u)) (λ a. clash (m u ∙ or-left (has others u) (has found u) (o u ∙ and-intro (has todo u) _ q a)) p))))
         (λ q. inl q)
         (decided (has todo u))
       where
-        same : (u : ℕ) → has todo u ≡ true → any (has todo) (below u) ≡ false → u ≡ y
+        same : (u : ℕ) → has todo u ≡ true → exists (has todo) (below u) ≡ false → u ≡ y
         same u q none =
             elim (ℕ-discrete u y) [
               | yes e ↦ e
@@ -182,5 +182,5 @@ pub rest-jobs : (near : Rel) (s : List ℕ) (x : ℕ) (todo rest : List ℕ) →
 rest-jobs near s x todo rest jobs i v p = jobs v (i .rest-in v p)
 
 -- an empty set, as a test over the jobs below 128 finds it
-pub empty : (s : List ℕ) → Jobs s → any (has s) (below 128) ≡ false → (v : ℕ) → has s v ≡ false
+pub empty : (s : List ℕ) → Jobs s → exists (has s) (below 128) ≡ false → (v : ℕ) → has s v ≡ false
 empty s jobs e v = false-unless (has s v) (λ h. clash h (any-miss (has s) (below 128) e (below-mem (jobs v h))))

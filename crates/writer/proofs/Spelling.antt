@@ -1,7 +1,7 @@
 -- The fields of a tree are its bits.
 use Prim.Native.Nat.{ℕ, _+_, _*_, _-_, _^_, _≤_, _<_}
 use mathlib.Core.Path.{_≡_, refl, sym, ap, ap₂, subst, _∙_}
-use mathlib.Core.List.{List, [], _∷_, _++_, flatMap, append-assoc, append-nil, List·Memᴰ·head}
+use mathlib.Core.List.{List, [], _∷_, _++_, flatMap, append-nil, List·Memᴰ·head}
 use mathlib.Core.Bool.{Bool, true, false}
 use mathlib.Core.Option.{Option, none, some}
 use native.Mathlib.Omega.{arith}
@@ -11,7 +11,7 @@ use lib.Seq.{take-at}
 use Rattle.poset.specs.Order.{Rel, Strict}
 use Rattle.poset.specs.Tree.{Kind, Tree, leaf, node, Forest, last, more, leaves, forestLeaves, groups, forestGroups, Spans}
 use Rattle.poset.specs.Decompose.{treeOf}
-use Rattle.poset.proofs.Laws.{clash, lt-true, false-unless, ltb-true}
+use Rattle.poset.proofs.Laws.{clash, lt-true, false-unless, ltb-true, flatMap-append}
 use Rattle.poset.proofs.Theorems.{tree-of-sound}
 use Rattle.record.specs.Bits.{AllBelow, bits, bytesOf}
 use Rattle.record.specs.Layout.{kindBit, moreChildren, treeBits, forestBits, layout}
@@ -24,11 +24,6 @@ use Rattle.writer.specs.Tokens.{groupToken, tokens, forestTokens, shape}
 use Rattle.writer.specs.Written.{filled, written}
 use Rattle.writer.specs.declared.tree.Shape.{Shape}
 use Rattle.writer.specs.declared.writing.Written.{Written}
-
-flat-append : (xs ys : List ℕ) → flatMap fieldBits (xs ++ ys) ≡ flatMap fieldBits xs ++ flatMap fieldBits ys
-unfolding flatMap
-flat-append [] ys = refl
-flat-append (x ∷ xs) ys = ap (λ l. fieldBits x ++ l) (flat-append xs ys) ∙ sym (append-assoc (fieldBits x) (flatMap fieldBits xs) (flatMap fieldBits ys))
 
 leaf-bits : (j : ℕ) → j < 128 → fieldBits j ≡ 0 ∷ bits 7 j
 unfolding fieldBits
@@ -59,13 +54,13 @@ mutual
   token-bits (leaf j) h = append-nil (fieldBits j) ∙ leaf-bits j (h .0 j (List·Memᴰ·head refl))
   token-bits (node k t f) h =
       ap₂ _++_ (group-bits k (moreChildren f) (children-few t f h))
-      (flat-append (tokens t) (forestTokens f)
+      (flatMap-append fieldBits (tokens t) (forestTokens f)
       ∙ ap₂ _++_ (token-bits t (small-left (leaves t) (forestLeaves f) h)) (forest-token-bits f (small-right (leaves t) (forestLeaves f) h)))
 
   forest-token-bits : (f : Forest) → Small (forestLeaves f) → flatMap fieldBits (forestTokens f) ≡ forestBits f
   forest-token-bits (last t) h = token-bits t h
   forest-token-bits (more t f) h =
-      flat-append (tokens t) (forestTokens f)
+      flatMap-append fieldBits (tokens t) (forestTokens f)
       ∙ ap₂ _++_ (token-bits t (small-left (leaves t) (forestLeaves f) h)) (forest-token-bits f (small-right (leaves t) (forestLeaves f) h))
 
 mutual

@@ -8,7 +8,7 @@ use native.Mathlib.Numerals.{add-one}
 use native.Mathlib.Omega.{arith}
 use lib.ListN.{length, take, set, length-set}
 use lib.Seq.{take-suc-set}
-use Rattle.poset.specs.Lists.{any, below}
+use Rattle.poset.specs.Lists.{exists, below}
 use Rattle.poset.specs.Order.{Rel}
 use Rattle.poset.proofs.Laws.{clash, false-unless, and-left, and-right, not-true, any-found, keep-mem}
 use Rattle.poset.proofs.Sums.{length-keep-le, length-below}
@@ -67,13 +67,13 @@ module _ (near under : Rel) (series : Bool) (s : List ℕ) where
             ∙ take-suc-set parts count part (omega (arith, i .size, i .room, few-members s, left-falls))
 
   pub split-end : (left : List ℕ) (parts : List (List ℕ)) (count : ℕ) → Splitting near under series s left parts count → Jobs s
-      → any (has left) (below 128) ≡ false → Splits near under series s (take count parts)
+      → exists (has left) (below 128) ≡ false → Splits near under series s (take count parts)
   split-end left parts count i jobs e =
       subst (Splits near under series s) (append-nil (take count parts))
       (i .so-far [] (empty left (λ v p. jobs v (i .within v p)) e))
 
 -- a set that is not empty
-room-left : (left : List ℕ) → any (has left) (below 128) ≡ true → 0 < length (members left)
+room-left : (left : List ℕ) → exists (has left) (below 128) ≡ true → 0 < length (members left)
 unfolding members
 room-left left h = let (x, m, p) = any-found (has left) (below 128) h in some-length (keep-mem (has left) m p)
   where
@@ -83,5 +83,5 @@ room-left left h = let (x, m, p) = any-found (has left) (below 128) h in some-le
 
 -- where something is left there is room for a part
 pub part-room : (near under : Rel) (series : Bool) (s left : List ℕ) (parts : List (List ℕ)) (count : ℕ) → Splitting near under series s left parts count
-    → any (has left) (below 128) ≡ true → count < 128
+    → exists (has left) (below 128) ≡ true → count < 128
 part-room near under series s left parts count i h = omega (arith, i .room, few-members s, room-left left h)

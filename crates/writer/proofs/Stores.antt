@@ -9,7 +9,7 @@ use lib.Dec.{eqb}
 use native.Mathlib.Numerals.{add-one}
 use lib.ListN.{length, take, drop, replicate, set, length-append, take-append-drop}
 use lib.Seq.{sets, set-comm, take-suc-set, drop-set-lt, drop-drop, length-take-le}
-use Rattle.poset.specs.Lists.{count}
+use Rattle.poset.specs.Lists.{occurrences}
 use Rattle.poset.proofs.Laws.{decided, clash, eqb-true, eqb-same, count-same, count-other, count-mem, count-append}
 
 -- a list filled from the left, zeros after it
@@ -57,8 +57,8 @@ module _ {ℓ} {A : Type ℓ} where
   split-mem {x} (List·Memᴰ·head {x = y} {xs = ys} e) = ([], ys, ap (λ z. z ∷ ys) (sym e))
   split-mem {x} (List·Memᴰ·tail {x = y} {xs = ys} m) = let s = split-mem m in (y ∷ s .0, s .1, ap (λ k. y ∷ k) (s .2))
 
-pub same-counts-length : (xs ys : List ℕ) → ((u : ℕ) → count u xs ≡ count u ys) → length xs ≡ length ys
-unfolding count
+pub same-counts-length : (xs ys : List ℕ) → ((u : ℕ) → occurrences u xs ≡ occurrences u ys) → length xs ≡ length ys
+unfolding occurrences
 same-counts-length [] [] e = refl
 same-counts-length [] (y ∷ ys) e = absurd (omega (arith, e y, count-same y y ys refl))
 same-counts-length (x ∷ xs) ys e =
@@ -66,9 +66,9 @@ same-counts-length (x ∷ xs) ys e =
     let rest = same-counts-length xs (s .0 ++ s .1) (λ u. less u (s .0) (s .1) (s .2)) in
     omega (arith, rest, ap length (s .2), length-append (s .0) (x ∷ s .1), length-append (s .0) (s .1))
   where
-    less : (u : ℕ) (ls bs : List ℕ) → ys ≡ ls ++ x ∷ bs → count u xs ≡ count u (ls ++ bs)
+    less : (u : ℕ) (ls bs : List ℕ) → ys ≡ ls ++ x ∷ bs → occurrences u xs ≡ occurrences u (ls ++ bs)
     less u ls bs q =
-        let whole = e u ∙ ap (count u) q ∙ count-append u ls (x ∷ bs) in
+        let whole = e u ∙ ap (occurrences u) q ∙ count-append u ls (x ∷ bs) in
         let part = count-append u ls bs in
         ⊎-elim
         (λ h. omega (arith, whole, part, count-same u x xs (eqb-true u x h), count-same u x bs (eqb-true u x h)))

@@ -14,7 +14,7 @@ use Rattle.poset.specs.Order.{Rel}
 use Rattle.poset.specs.Decompose.{Block}
 use Rattle.poset.specs.Tree.{Kind, series, parallel, Tree, leaf, node, Forest, last, more}
 use Rattle.poset.specs.Tree.{leaves, forestLeaves, reversed, forestReversed, joined, groups, forestGroups}
-use Rattle.poset.specs.Lists.{count}
+use Rattle.poset.specs.Lists.{occurrences}
 use Rattle.poset.proofs.Laws.{decided, clash, eqb-true, eqb-same, count-same, count-other, count-zero, count-mem, mem-count}
 use Rattle.poset.proofs.Shape.{in-leaves, leaves-in, good-once}
 use Rattle.poset.proofs.Meaning.{once-count}
@@ -111,8 +111,8 @@ mutual
       group-length k (reversed t) (forestReversed k f) (leaves t) (forestLeaves f) (reversed-length t) (forestReversed-length k f)
 
 -- a list that ascends has each of its elements once
-sorted-count : (xs : List ℕ) → Sorted xs → (u : ℕ) → count u xs ≤ 1
-unfolding count
+sorted-count : (xs : List ℕ) → Sorted xs → (u : ℕ) → occurrences u xs ≤ 1
+unfolding occurrences
 sorted-count [] s u = omega arith
 sorted-count (x ∷ xs) s u =
     ⊎-elim
@@ -123,13 +123,13 @@ sorted-count (x ∷ xs) s u =
     (decided (eqb u x))
 
 -- two lists that have each element at most once, and the same elements
-same-count : (u : ℕ) (xs ys : List ℕ) → count u xs ≤ 1 → count u ys ≤ 1 → (List·Memᴰ u xs → List·Memᴰ u ys) → (List·Memᴰ u ys → List·Memᴰ u xs)
-    → count u xs ≡ count u ys
+same-count : (u : ℕ) (xs ys : List ℕ) → occurrences u xs ≤ 1 → occurrences u ys ≤ 1 → (List·Memᴰ u xs → List·Memᴰ u ys) → (List·Memᴰ u ys → List·Memᴰ u xs)
+    → occurrences u xs ≡ occurrences u ys
 same-count u xs ys p q to from =
     ⊎-elim
     (λ z. omega (arith, z, count-zero u ys (λ m. omega (arith, mem-count (from m)))))
     (λ h. omega (arith, mem-count (to (count-mem u xs h))))
-    (eq-zero-or-pos (count u xs))
+    (eq-zero-or-pos (occurrences u xs))
 
 pub tells-length : (r : Rel) (b : Block) (t : Tree) → Sorted b → Tells r b t → length (reversed t) ≡ length b
 tells-length r b t s x =

@@ -9,16 +9,16 @@ use Rattle.poset.specs.Order.{Rel}
 use Rattle.relation.specs.Table.{has, members, Least}
 
 -- a path of near jobs, all but the first in S
-pub data Path (near : Rel) (S : ℕ → Type 0) (x : ℕ) : ℕ → Type 0 where
-  start : Path near S x x
-  next : {y v : ℕ} → Path near S x y → S v → near y v ≡ true → Path near S x v
+pub data Walk (near : Rel) (S : ℕ → Type 0) (x : ℕ) : ℕ → Type 0 where
+  start : Walk near S x x
+  next : {y v : ℕ} → Walk near S x y → S v → near y v ≡ true → Walk near S x v
 
 -- the part of a set that x falls to: it is joined to x, and near to nothing else of the set
 pub record PartOf (near : Rel) (s : List ℕ) (x : ℕ) (part : List ℕ) : Type 0 where
   pub within : (v : ℕ) → has part v ≡ true → has s v ≡ true
   pub own : has part x ≡ true
   pub far : (u v : ℕ) → has part u ≡ true → has s v ≡ true → has part v ≡ false → near u v ≡ false
-  pub joined : (u : ℕ) → has part u ≡ true → Path near (λ v. has part v ≡ true) x u
+  pub joined : (u : ℕ) → has part u ≡ true → Walk near (λ v. has part v ≡ true) x u
 
 -- a set of jobs below 128
 abbrev pub Jobs : List ℕ → Type 0

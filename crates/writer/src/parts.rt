@@ -4,7 +4,7 @@ ghost use mathlib.Core.Path.{_≡_};
 ghost use mathlib.Core.Bool.{true};
 ghost use lib.ListN.{length};
 ghost use Rattle.relation.specs.Table.{has, holds};
-ghost use Rattle.poset.specs.Lists.{any, below};
+ghost use Rattle.poset.specs.Lists.{exists, below};
 ghost use Rattle.writer.specs.Parts.{Jobs, PartOf, Partial, First, StartsAt, Cut};
 
 // The part of a set that x falls to: jobs that near joins stay together.
@@ -34,7 +34,7 @@ fn part_of(near: &[[u64; 2]; 128], s: [u64; 2], x: usize) -> [u64; 2]
 // forwards or backwards.
 fn first_of(under: &[[u64; 2]; 128], s: [u64; 2]) -> usize
     requires { ⌜ Jobs s ⌝ }
-    requires { ⌜ any (has s) (below 128) ≡ true ⌝ }
+    requires { ⌜ exists (has s) (below 128) ≡ true ⌝ }
     requires { ⌜ Partial (holds (now under)) ⌝ }
     ensures { λ r. ⌜ First (holds (now (under .entry))) s r ⌝ }
 {
@@ -52,7 +52,7 @@ fn first_of(under: &[[u64; 2]; 128], s: [u64; 2]) -> usize
 // Where the next part starts.
 fn start_of(under: &[[u64; 2]; 128], series: bool, s: [u64; 2]) -> usize
     requires { ⌜ Jobs s ⌝ }
-    requires { ⌜ any (has s) (below 128) ≡ true ⌝ }
+    requires { ⌜ exists (has s) (below 128) ≡ true ⌝ }
     requires { ⌜ Partial (holds (now under)) ⌝ }
     ensures { λ r. ⌜ StartsAt (holds (now (under .entry))) series s r ⌝ }
 {

@@ -224,30 +224,27 @@ fn first_entry(
     first
 }
 
-// Which jobs are comparable, among those below n.
-fn comparable(after: &[[u64; 2]; 128], under: &[[u64; 2]; 128], n: usize) -> [[u64; 2]; 128]
-    requires { ⌜ n ≤ 128 ⌝ }
-    ensures { λ r. ⌜ ((u v : ℕ) → u < n → holds r u v ≡ (holds (now (after .entry)) u v || holds (now (under .entry)) u v)) ⌝ }
-{
-    let mut r = [[0; 2]; 128];
-    for u in 0..n {
-        r[u] = set::union(after[u], under[u]);
-    }
-    r
-}
-
-// Which jobs are incomparable, among those below n.
-fn incomparable(tied: &[[u64; 2]; 128], n: usize) -> [[u64; 2]; 128]
-    requires { ⌜ n ≤ 128 ⌝ }
-    ensures { λ r. ⌜ ((u v : ℕ) → u < n → holds r u v ≡ (ltb v n && (not (eqb u v) && not (holds (now (tied .entry)) u v)))) ⌝ }
+// Which jobs are comparable, and which incomparable, among those below n.
+fn compare(
+    after: &[[u64; 2]; 128],
+    under: &[[u64; 2]; 128],
+    n: usize,
+    tied: &mut [[u64; 2]; 128],
+    free: &mut [[u64; 2]; 128],
+)
+    requires { ⌜ (n ≤ 128) × (length (now tied) ≡ 128) × (length (now free) ≡ 128) ⌝ }
+    ensures { λ _. ⌜ ((u v : ℕ) → u < n → holds (now (tied .exit)) u v
+        ≡ (holds (now (after .entry)) u v || holds (now (under .entry)) u v)) ⌝ }
+    ensures { λ _. ⌜ ((u v : ℕ) → u < n → holds (now (free .exit)) u v
+        ≡ (ltb v n && (not (eqb u v) && not (holds (now (after .entry)) u v || holds (now (under .entry)) u v)))) ⌝ }
 {
     let all = set::all_below(n);
-    let mut r = [[0; 2]; 128];
     for u in 0..n {
+        let near = set::union(after[u], under[u]);
         let others = set::difference(all, set::only(u));
-        r[u] = set::difference(others, tied[u]);
+        tied[u] = near;
+        free[u] = set::difference(others, near);
     }
-    r
 }
 
 // The canonical tree of an order: whether there is one, its fields and groups, and the two sequences.
@@ -296,8 +293,9 @@ pub fn shape_of(after: &[[u64; 2]; 128], under: &[[u64; 2]; 128], n: usize) -> S
     requires { ⌜ ((u v : ℕ) → holds (now under) u v ≡ holds (now after) v u) ⌝ }
     ensures { λ r. ⌜ r ≡ shape (treeOf n (holds (now (after .entry)))) ⌝ }
 {
-    let tied = comparable(after, under, n);
-    let free = incomparable(&tied, n);
+    let mut tied = [[0; 2]; 128];
+    let mut free = [[0; 2]; 128];
+    compare(after, under, n, &mut tied, &mut free);
     let mut parts = [[0; 2]; 128];
     let mut stack = [[0; 2]; 128];
     let mut numbers = [0; 128];

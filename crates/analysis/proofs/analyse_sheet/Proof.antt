@@ -8,14 +8,14 @@ use Rattle.sheet.specs.Scan.{scan}
 use Rattle.analysis.specs.Outcome.{sheetOutcome}
 use Rattle.analysis.specs.Result.{rooms, Gives}
 use Rattle.analysis.proofs.Crossing.{gives-same, gives-refusal}
-use Rattle.analysis.proofs.Steps.{sheet-long, sheet-broken, sheet-read, pairs-numbers}
+use Rattle.analysis.proofs.Steps.{sheet-long, sheet-broken, sheet-read, pairs-bytes}
 use Rattle.analysis.proofs.SheetArcs.{arcs-read, broken-read, list-length}
 use Rattle.analysis.proofs.analyse_sheet.Statement.{statement}
 use Rattle.analysis.proofs.analyse_sheet.Tie as tie
 use Rattle.analysis.proofs.analyse_sheet.Reads as reads
 use Rattle.analysis.proofs.analyse_sheet.Lts as lts
 use Rattle.analysis.proofs.limits.of_count.Reads as of-count-reads
-use Rattle.analysis.proofs.listed.Reads as listed-reads
+use Rattle.analysis.proofs.looked_at.Reads as looked-at-reads
 use Rattle.analysis.proofs.refused.Reads as refused-reads
 use Rattle.sheet.proofs.read_sheet.Reads as read-sheet-reads
 
@@ -46,8 +46,8 @@ enum-known-read : tie.Need-enum-known-read
 enum-known-read c = search needs
 
 -- src/lib.rt:67:48
-listed-requires : tie.Need-listed-requires
-listed-requires c κs = search needs
+looked-at-requires : tie.Need-looked-at-requires
+looked-at-requires c κs = search needs
 
 -- src/lib.rt:67:40
 array-share-prefix-list : tie.Need-array-share-prefix-list
@@ -60,7 +60,7 @@ slice-aggregate-of-count c =
     let s = test .before .before .before in
     let a = c .before .before .before .before .before .before .read-sheet in
     let long = list-length (scan (s .args .sheet .now)) _ (a .last .1 .0) (a .result) (a .ensures) in
-    sym (length-take-le (c .before .listed .result) (a .last .1 .0) (omega (arith, long, c .before .listed .ensures .0)))
+    sym (length-take-le (c .before .looked-at .result) (a .last .1 .0) (omega (arith, long, c .before .looked-at .ensures .0)))
 
 -- src/lib.rt:67:13
 of-count-requires : tie.Need-of-count-requires
@@ -94,8 +94,8 @@ returns-2 c =
     let x = arcs-read (scan text) _ (a .last .1 .0) (a .result) _ _ (a .ensures) (test .before .read .given .1) refl in
     gives-same (sym (sheet-read (rooms b ar) text _ (x .arcs) (test .before .before .before .before .before .before .if1 .left) (x .read-is)))
     (c .before .before .before .before .of-count .ensures (x .arcs) (x .size)
-    (λ few. ap (λ k. pairs (take k (a .last .1 .0))) (c .before .before .before .before .before .before .before .before .listed .ensures .1 few)
-    ∙ ap pairs (x .front few) ∙ pairs-numbers (x .arcs)))
+    (λ few. ap (λ k. pairs (take k (a .last .1 .0))) (c .before .before .before .before .before .before .before .before .looked-at .ensures .1 few)
+    ∙ ap pairs (x .front few) ∙ pairs-bytes (x .arcs)))
 
 -- src/lib.rt:56:1
 returns-3 : tie.Need-returns-3
@@ -120,7 +120,7 @@ analyse-sheet-spec =
     slice-aggregate-read-sheet
     read-sheet-requires
     enum-known-read
-    listed-requires
+    looked-at-requires
     array-share-prefix-list
     slice-aggregate-of-count
     of-count-requires

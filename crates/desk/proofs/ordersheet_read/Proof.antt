@@ -3,7 +3,7 @@ use native.Mathlib.Omega.{arith}
 use borrow.Author.Needs.{needs}
 use Rattle.reader.proofs.Whole.{all-below}
 use Rattle.desk.proofs.Bounds.{record-narrow}
-use Rattle.desk.proofs.Telling.{gives-narrow, gives-told}
+use Rattle.desk.proofs.Telling.{gives-told}
 use Rattle.desk.proofs.ordersheet_read.Statement.{statement}
 use Rattle.desk.proofs.ordersheet_read.Tie as tie
 
@@ -11,17 +11,18 @@ analyse-record-requires : tie.Need-analyse-record-requires
 analyse-record-requires c κs = search needs
 
 packed-requires : tie.Need-packed-requires
-packed-requires c κs =
-    let k = c .before .before .before .before .before in
-    let bytes = k .before .args .bytes .now in
-    gives-narrow (c .before .before .analyse-record .ensures)
-    (record-narrow _ bytes (all-below 256 bytes (λ i. omega (arith, k .shared-slice-known .given i))))
+packed-requires c κs = search needs
 
 same-length : tie.Need-same-length
 same-length c = search needs
 
 returns : tie.Need-returns
-returns c = gives-told (c .before .before .before .analyse-record .ensures) (c .packed .ensures)
+returns c =
+    let k = c .before .before .before .before .before .before in
+    let bytes = k .before .args .bytes .now in
+    gives-told (c .before .before .before .analyse-record .ensures)
+    (record-narrow _ bytes (all-below 256 bytes (λ i. omega (arith, k .shared-slice-known .given i))))
+    (c .packed .ensures)
 
 pub ordersheet-read-spec : {M : Type 1} → statement M
 ordersheet-read-spec =

@@ -1,7 +1,6 @@
 -- `desk_tests::ordersheet_test_pairs` meets its contract: the analysis does, and its answer is narrow.
 use borrow.Author.Needs.{needs}
 use Rattle.desk.proofs.Bounds.{pair-narrow}
-use Rattle.desk.proofs.Telling.{gives-narrow}
 use Rattle.desk_tests.proofs.Showing.{gives-shown}
 use Rattle.desk_tests.proofs.ordersheet_test_pairs.Statement.{statement}
 use Rattle.desk_tests.proofs.ordersheet_test_pairs.Tie as tie
@@ -10,7 +9,7 @@ analyse-pairs-requires : tie.Need-analyse-pairs-requires
 analyse-pairs-requires c κs = search needs
 
 shown-requires : tie.Need-shown-requires
-shown-requires c κs = gives-narrow (c .before .before .before .before .before .before .analyse-pairs .ensures) (pair-narrow _ _ _)
+shown-requires c κs = search needs
 
 same-length : tie.Need-same-length
 same-length c = search needs
@@ -27,7 +26,7 @@ same-length-4 c = search needs
 returns : tie.Need-returns
 returns c =
     let s = c .before .before .before .before in
-    gives-shown (s .before .before .before .before .before .before .before .analyse-pairs .ensures) (s .shown .ensures)
+    gives-shown (s .before .before .before .before .before .before .before .analyse-pairs .ensures) (pair-narrow _ _ _) (s .shown .ensures)
 
 pub ordersheet-test-pairs-spec : {M : Type 1} → statement M
 ordersheet-test-pairs-spec =

@@ -3,7 +3,6 @@ use native.Mathlib.Omega.{arith}
 use borrow.Author.Needs.{needs}
 use Rattle.reader.proofs.Whole.{all-below}
 use Rattle.desk.proofs.Bounds.{record-narrow}
-use Rattle.desk.proofs.Telling.{gives-narrow}
 use Rattle.desk_tests.proofs.Showing.{gives-shown}
 use Rattle.desk_tests.proofs.ordersheet_test_read.Statement.{statement}
 use Rattle.desk_tests.proofs.ordersheet_test_read.Tie as tie
@@ -12,11 +11,7 @@ analyse-record-requires : tie.Need-analyse-record-requires
 analyse-record-requires c κs = search needs
 
 shown-requires : tie.Need-shown-requires
-shown-requires c κs =
-    let a = c .before .before .before .before in
-    let k = a .before .before .before .before .before in
-    let bytes = k .before .args .bytes .now in
-    gives-narrow (a .analyse-record .ensures) (record-narrow _ bytes (all-below 256 bytes (λ i. omega (arith, k .shared-slice-known .given i))))
+shown-requires c κs = search needs
 
 same-length : tie.Need-same-length
 same-length c = search needs
@@ -30,7 +25,11 @@ same-length-3 c = search needs
 returns : tie.Need-returns
 returns c =
     let s = c .before .before .before .before in
-    gives-shown (s .before .before .before .before .before .analyse-record .ensures) (s .shown .ensures)
+    let a = s .before .before .before .before .before in
+    let k = a .before .before .before .before .before in
+    let bytes = k .before .args .bytes .now in
+    gives-shown (a .analyse-record .ensures) (record-narrow _ bytes (all-below 256 bytes (λ i. omega (arith, k .shared-slice-known .given i))))
+    (s .shown .ensures)
 
 pub ordersheet-test-read-spec : {M : Type 1} → statement M
 ordersheet-test-read-spec =

@@ -1,7 +1,6 @@
 -- `desk_tests::ordersheet_test_sheet` meets its contract: the analysis does, and its answer is narrow.
 use borrow.Author.Needs.{needs}
 use Rattle.desk.proofs.Bounds.{sheet-narrow}
-use Rattle.desk.proofs.Telling.{gives-narrow}
 use Rattle.desk_tests.proofs.Showing.{gives-shown}
 use Rattle.desk_tests.proofs.ordersheet_test_sheet.Statement.{statement}
 use Rattle.desk_tests.proofs.ordersheet_test_sheet.Tie as tie
@@ -10,7 +9,7 @@ analyse-sheet-requires : tie.Need-analyse-sheet-requires
 analyse-sheet-requires c κs = search needs
 
 shown-requires : tie.Need-shown-requires
-shown-requires c κs = gives-narrow (c .before .before .before .before .before .before .analyse-sheet .ensures) (sheet-narrow _ _)
+shown-requires c κs = search needs
 
 same-length : tie.Need-same-length
 same-length c = search needs
@@ -27,7 +26,7 @@ same-length-4 c = search needs
 returns : tie.Need-returns
 returns c =
     let s = c .before .before .before .before in
-    gives-shown (s .before .before .before .before .before .before .before .analyse-sheet .ensures) (s .shown .ensures)
+    gives-shown (s .before .before .before .before .before .before .before .analyse-sheet .ensures) (sheet-narrow _ _) (s .shown .ensures)
 
 pub ordersheet-test-sheet-spec : {M : Type 1} → statement M
 ordersheet-test-sheet-spec =

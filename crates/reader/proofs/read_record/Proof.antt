@@ -1,10 +1,13 @@
 -- `read_record` meets its contract: each refusal is a law that no tree's record is these bytes. In an answer t is the place after the tree
 -- was read, f what holds of the job count's field.
-use mathlib.Core.Path.{refl, sym, _∙_}
+use Prim.Native.Nat.{ℕ, _*_, _≤_}
+use mathlib.Core.Path.{refl, sym, ap, subst, _∙_}
 use native.Mathlib.Omega.{arith}
 use borrow.Author.Needs.{needs}
 use borrow.Author.Tests.{not-true, not-false}
-use Rattle.record.specs.Bits.{AllBelow}
+use lib.ListN.{length, drop}
+use Rattle.record.specs.Bits.{AllBelow, bitsOf}
+use Rattle.record.specs.Decode.{fills}
 use Rattle.reader.proofs.Whole.{
   all-below,
   none-empty,
@@ -76,14 +79,17 @@ returns-4 c =
     (none-count _ _ f _ _ _ _ (t .tree .ensures) (not-false _ (c .before .before .before .if3 .left)) (c .before .if4 .taken))
     (c .no-record4 .ensures)
 
-cast-filled : tie.Need-cast-filled
-cast-filled c = search needs
+place-requires : tie.Need-place-requires
+place-requires c κs = search needs
 
 filled-requires : tie.Need-filled-requires
 filled-requires c κs =
     let t = c .before .before .before .before .before in
     let f = t .before .before .before .before .field .ensures in
-    (tree-within _ _ f _ _ _ _ (t .tree .ensures) (not-false _ (c .before .before .before .if3 .left)), t .before .before .before .before .before .if2 .left)
+    let within = tree-within _ _ f _ _ _ _ (t .tree .ensures) (not-false _ (c .before .before .before .if3 .left)) in (
+      subst (λ (i : ℕ). i ≤ 8 * length (t .before .before .before .before .before .before .before .before .args .bytes .now)) (sym (c .place .ensures)) within,
+      t .before .before .before .before .before .if2 .left,
+    )
 
 no-record-requires-5 : tie.Need-no-record-requires-5
 no-record-requires-5 c κs = search needs
@@ -91,10 +97,12 @@ no-record-requires-5 c κs = search needs
 returns-5 : tie.Need-returns-5
 returns-5 c =
     let t = c .before .before .before .before .before .before .before .before in
+    let b = t .before .before .before .before .before .before .before .before .args .bytes .now in
     let f = t .before .before .before .before .field .ensures in
     reads-none _ _ (bytes-below (t .before .before .before .before .before .before .before))
     (none-filled _ _ f _ _ _ _ (t .tree .ensures) (not-false _ (c .before .before .before .before .before .before .if3 .left))
-    (sym (c .before .before .filled .ensures) ∙ not-true _ (c .before .if5 .taken)))
+    (ap (λ (i : ℕ). fills (drop i (bitsOf b))) (sym (c .before .before .before .place .ensures)) ∙ sym (c .before .before .filled .ensures)
+    ∙ not-true _ (c .before .if5 .taken)))
     (c .no-record5 .ensures)
 
 cast-in-turn : tie.Need-cast-in-turn
@@ -113,11 +121,14 @@ cast-t8 c = search needs
 returns-6 : tie.Need-returns-6
 returns-6 c =
     let t = c .before .before .before .before .before .before .before .before .before .before .before in
+    let b = t .before .before .before .before .before .before .before .before .args .bytes .now in
     let f = t .before .before .before .before .field .ensures in
     reads-some _ _ f _ _ _ _ (t .tree .ensures) (bytes-below (t .before .before .before .before .before .before .before)) refl
     (not-false _ (c .before .before .before .before .before .before .before .before .before .if3 .left))
     (c .before .before .before .before .before .before .before .if4 .left)
-    (sym (c .before .before .before .before .before .filled .ensures) ∙ not-false _ (c .before .before .before .before .if5 .left))
+    (ap (λ (i : ℕ). fills (drop i (bitsOf b))) (sym (c .before .before .before .before .before .before .place .ensures))
+    ∙ sym (c .before .before .before .before .before .filled .ensures)
+    ∙ not-false _ (c .before .before .before .before .if5 .left))
     _ (c .before .in-turn .ensures)
 
 pub read-record-spec : {M : Type 1} → statement M
@@ -137,7 +148,7 @@ read-record-spec =
     cast-if4
     no-record-requires-4
     returns-4
-    cast-filled
+    place-requires
     filled-requires
     no-record-requires-5
     returns-5

@@ -8,10 +8,10 @@ use lib.ListN.{length}
 use borrow.Author.Needs.{needs}
 use borrow.Author.Tests.{not-false}
 use Rattle.poset.specs.Order.{Arc, before, pairsOf, reduction}
-use Rattle.poset.specs.Areas.{overlay}
+use Rattle.poset.specs.Areas.{overlay, arcBytes}
 use Rattle.poset.proofs.Laws.{not-true}
 use Rattle.relation.specs.Table.{holds, Inside}
-use Rattle.relation.specs.Arcs.{pairs, arcBytes}
+use Rattle.relation.specs.Arcs.{pairs}
 use Rattle.relation.proofs.Chain.{reduced-inside}
 use Rattle.relation_bench.specs.Steps.{fits, acyclic}
 use Rattle.relation_bench.proofs.Refusals.{fits-within, acyclic-strict, covers-reduction}
@@ -53,7 +53,7 @@ module _ (c : tie.After-acyclic) where
 -- there is none, and the order is reduced
 module _ (c : tie.After-reduced) where
   abbrev look : tie.After-acyclic
-  look = c .before .before
+  look = c .before .before .before
 
   abbrev fitting : tie.Else1
   fitting = was look
@@ -62,7 +62,7 @@ module _ (c : tie.After-reduced) where
   covering = c .reduced .result
 
   order : acyclic (n fitting) (before (n fitting) (given fitting)) ≡ true
-  order = sym (tested look) ∙ not-false _ (c .before .if2 .left)
+  order = sym (tested look) ∙ not-false _ (c .before .before .if2 .left)
 
   inside : Inside (n fitting) covering
   inside = reduced-inside (n fitting) (closure look .closed .result) covering (closure look .closed .ensures .1) (c .reduced .ensures)
@@ -93,9 +93,10 @@ returns-2 c =
 
 reduced-requires : tie.Need-reduced-requires
 reduced-requires c κs =
-    let w = was (c .before) in
-    let e = closure (c .before) .closed .ensures in
-    let o = sym (tested (c .before)) ∙ not-false _ (c .if2 .left) in
+    let look = c .before .before in
+    let w = was look in
+    let e = closure look .closed .ensures in
+    let o = sym (tested look) ∙ not-false _ (c .before .if2 .left) in
     (small w, (rw (e .0) (acyclic-strict (n w) (given w) o), e .1))
 
 pair-count-requires : tie.Need-pair-count-requires

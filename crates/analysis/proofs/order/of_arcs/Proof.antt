@@ -52,13 +52,13 @@ enum-told c = search needs
 take-apart-requires : tie.Need-take-apart-requires
 take-apart-requires c κs =
     let test = c .before .before .before .before .before .before .before .before .before in
-    let s = test .before .before in
+    let s = test .before .before .before in
     let n = s .args .n in
     let arcs = pairs (s .args .list .now) in
-    let t = c .before .before .before .before .before .before .before .table-of in
-    let k = c .before .before .before .before .before .before .closure in
-    let first = c .before .before .before .before .first-on-cycle in
-    let none-here = sym (first .ensures) ∙ ap found (c .before .before .enum-told .given .1) in (
+    let t = c .before .before .before .before .before .before .before .before .table-of in
+    let k = c .before .before .before .before .before .before .before .closure in
+    let first = c .before .before .before .before .before .first-on-cycle in
+    let none-here = sym (first .ensures) ∙ ap found (c .before .before .before .enum-told .given .1) in (
       s .pre .0,
       (
         closure-strict n arcs (t .result) (t .ensures) (k .result) (k .ensures) none-here,
@@ -95,16 +95,16 @@ same-length-2 c = search needs
 returns-2 : tie.Need-returns-2
 returns-2 c =
     let test = c .before .before .before .before .before .before .before .before .before in
-    let s = test .before .before .before .before .before .before .before in
+    let s = test .before .before .before .before .before .before .before .before in
     let n = s .args .n in
     let arcs = pairs (s .args .list .now) in
-    let t = test .before .before .before .table-of in
-    let k = test .before .before .closure in
-    let first = test .first-on-cycle in
+    let t = test .before .before .before .before .table-of in
+    let k = test .before .before .before .closure in
+    let first = test .before .first-on-cycle in
     let b = s .args .bytes .now in
     let ar = s .args .area .now in
     let e = closure-before n arcs (t .result) (t .ensures) (k .result) (k .ensures) in
-    let none-here = sym (first .ensures) ∙ ap found (c .before .before .before .before .before .before .before .enum-told .given .1) in
+    let none-here = sym (first .ensures) ∙ ap found (c .before .before .before .before .before .before .before .before .enum-told .given .1) in
     gives-same (no-circle (rooms b ar) n (before n arcs) (holds (k .result)) e none-here) (c .before .before .before .before .take-apart .ensures)
 
 pub of-arcs-spec : {M : Type 1} → statement M

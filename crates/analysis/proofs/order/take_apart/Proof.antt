@@ -40,13 +40,13 @@ crossed-requires c κs = search needs
 returns : tie.Need-returns
 returns c =
     let test = c .before .before .before .before .before .before .before .before .before in
-    let s = test .before .before in
+    let s = test .before in
     let n = s .args .n in
-    let r = holds (s .args .t1) in
+    let r = holds (s .args .after .now) in
     let b = s .args .bytes .now in
     let ar = s .args .area .now in
-    let w = c .before .before .before .before .before .write-record in
-    let bare = written-told n (treeOf n r) (w .result) (w .ensures) .1 (not-true (w .result .ok) (c .before .before .before .if1 .taken)) in
+    let w = c .before .before .before .before .write-record in
+    let bare = written-told n (treeOf n r) (w .result) (w .ensures) .1 (not-true (w .result .ok) (c .before .before .if1 .taken)) in
     subst (λ a. Gives (decomposed (rooms b ar) n r) b ar a b ar) (sym (c .crossed .ensures)) (gives-crossed (rooms b ar) n r b ar bare)
 
 -- src/order.rt:51:19
@@ -58,7 +58,7 @@ pair-count-requires : tie.Need-pair-count-requires
 pair-count-requires c κs =
     let test = c .before .before .before .before .before .before .before .before .before in
     let s = test .before in
-    (s .pre .0 .1, reduced-inside (s .args .n) (s .args .t1) (c .before .reduced .result) (s .pre .1 .1) (c .before .reduced .ensures))
+    (s .pre .0 .1, reduced-inside (s .args .n) (s .args .after .now) (c .before .reduced .result) (s .pre .1 .1) (c .before .reduced .ensures))
 
 -- src/order.rt:54:9
 refused-requires : tie.Need-refused-requires
@@ -70,7 +70,7 @@ returns-2 c =
     let test = c .before .before .before .before .before .before .before .before .before in
     let s = test .before .before .before .before .before in
     let n = s .args .n in
-    let r = holds (s .args .t1) in
+    let r = holds (s .args .after .now) in
     let b = s .args .bytes .now in
     let ar = s .args .area .now in
     let w = c .before .before .before .before .before .before .before .before .write-record in
@@ -92,7 +92,7 @@ mul-if3 c =
     record {
       fits = omega (
         arith,
-        count-few (s .args .n) (holds (s .args .t1)) (red .result) (m .result)
+        count-few (s .args .n) (holds (s .args .after .now)) (red .result) (m .result)
             (s .pre .0 .1) (s .pre .1 .0) (red .ensures) (m .ensures),
       );
     }
@@ -107,7 +107,7 @@ returns-3 c =
     let test = c .before .before .before .before .before .before .before .before .before in
     let s = test .before .before .before .before .before .before in
     let n = s .args .n in
-    let r = holds (s .args .t1) in
+    let r = holds (s .args .after .now) in
     let b = s .args .bytes .now in
     let ar = s .args .area .now in
     let w = test .write-record in
@@ -125,7 +125,7 @@ copy-requires c κs =
     let test = c .before .before .before .before .before .before .before .before .before in
     let s = test .before .before .before .before .before .before .before .before .before .before in
     let n = s .args .n in
-    let r = holds (s .args .t1) in
+    let r = holds (s .args .after .now) in
     let b = s .args .bytes .now in
     let ar = s .args .area .now in
     let w = test .before .before .before .before .write-record in
@@ -142,7 +142,8 @@ write-pairs-requires c κs =
     let s = test .before .before .before .before .before .before .before .before .before .before .before .before .before .before .before in
     let red = test .before .before .before .before .before .before .reduced in
     let m = test .before .before .before .before .pair-count in
-    (s .pre .0 .1, (reduced-inside (s .args .n) (s .args .t1) (red .result) (s .pre .1 .1) (red .ensures), omega (arith, m .ensures, test .before .if3 .left)))
+    let inside = reduced-inside (s .args .n) (s .args .after .now) (red .result) (s .pre .1 .1) (red .ensures) in
+    (s .pre .0 .1, (inside, omega (arith, m .ensures, test .before .if3 .left)))
 
 -- src/order.rt:39:1
 same-length : tie.Need-same-length
@@ -159,7 +160,7 @@ returns-4 c =
     let split = test .before .before .before .before .before .before .before .before .before in
     let s = split .before .before .before .before .before .before .before .before .before in
     let n = s .args .n in
-    let r = holds (s .args .t1) in
+    let r = holds (s .args .after .now) in
     let b = s .args .bytes .now in
     let ar = s .args .area .now in
     let w = test .before .before .before .before .before .before .before .before .before .before .before .before .write-record in

@@ -1,29 +1,47 @@
--- `groups::tree` meets its contract.
+-- `groups::tree` meets its contract: a chain is a child of a side group, any other tree the only child of a chain.
+use native.Mathlib.Omega.{arith}
 use borrow.Author.Needs.{needs}
-use Rattle.reader.proofs.Child.{chain-tree, side-tree}
+use Rattle.poset.specs.Tree.{parallel}
+use Rattle.record.specs.Layout.{kindBit}
+use Rattle.reader.proofs.Refusals.{above-all}
+use Rattle.reader.proofs.Child.{child-group, tree-child, tree-chain, tree-full}
 use Rattle.reader.proofs.groups.tree.Statement.{statement}
 use Rattle.reader.proofs.groups.tree.Tie as tie
 
 node-at-requires : tie.Need-node-at-requires
 node-at-requires c κs = search needs
 
-side-child-requires : tie.Need-side-child-requires
-side-child-requires c κs = search needs
+chain-requires : tie.Need-chain-requires
+chain-requires c κs = search needs
 
 returns : tie.Need-returns
 returns c =
     let n = c .before .before .before .before .before .before in
-    chain-tree _ _ _ _ _ (n .before .before .pre .few) _ (n .node-at .ensures) _ _ _ (c .before .before .before .before .if1 .taken) (c .side-child .ensures)
+    let p = n .before .before .pre in
+    tree-child _ _ _ _ _ (p .few) _ (n .node-at .ensures) _ _ _ (c .before .before .before .before .if1 .taken) (c .chain .ensures)
 
-chain-child-requires : tie.Need-chain-child-requires
-chain-child-requires c κs = search needs
+refused-requires : tie.Need-refused-requires
+refused-requires c κs = search needs
 
 returns-2 : tie.Need-returns-2
 returns-2 c =
-    let n = c .before .before .before .before .before .before in
-    side-tree _ _ _ _ _ (n .before .before .pre .few) _ (n .node-at .ensures) _ _ _ (c .before .before .before .before .if1 .left) (c .chain-child .ensures)
+    let n = c .before .before .before .before in
+    let p = n .before .before .pre in
+    tree-full _ _ _ _ _ (p .few) _ (n .node-at .ensures) _ _ _ (c .before .before .if1 .left) (omega (arith, c .before .if2 .taken)) (c .refused .ensures)
+
+chain-requires-2 : tie.Need-chain-requires-2
+chain-requires-2 c κs = search needs
+
+returns-3 : tie.Need-returns-3
+unfolding kindBit
+returns-3 c =
+    let n = c .before .before .before .before .before .before .before in
+    let p = n .before .before .pre in
+    let kind = c .before .before .before .before .before .if1 .left in
+    tree-chain _ _ _ _ _ (p .few) _ (n .node-at .ensures) _ _ _ kind
+    (child-group parallel _ _ _ _ _ (p .few) _ (n .node-at .ensures) _ _ _ _ _ _ _ kind _ (c .chain2 .ensures) (above-all _))
 
 pub tree-spec : {M : Type 1} → statement M
 tree-spec =
     tie.close
-    (tie.spec node-at-requires side-child-requires returns chain-child-requires returns-2)
+    (tie.spec node-at-requires chain-requires returns refused-requires returns-2 chain-requires-2 returns-3)

@@ -1,10 +1,12 @@
 -- `relation::arcs::first_loop` meets its contract.
 use Prim.Native.Nat.{_-_}
 use native.Mathlib.Omega.{arith}
+use mathlib.Core.Path.{sym, _∙_}
 use lib.ListN.{length}
 use borrow.Author.Tests.{eq-eqb, ne-eqb}
-use Rattle.relation.specs.Arcs.{outside, loop}
-use Rattle.relation.proofs.Flat.{Searched, searched-none, searched-hit, searched-next, searched-end}
+use Rattle.poset.proofs.Laws.{not-true}
+use Rattle.relation.specs.Arcs.{pairs, loop}
+use Rattle.relation.proofs.Flat.{Searched, searched-none, searched-hit, searched-next, searched-end, nowhere}
 use borrow.Author.Needs.{needs}
 use Rattle.relation.proofs.arcs.first_loop.Statement.{statement}
 use Rattle.relation.proofs.arcs.first_loop.Tie as tie
@@ -15,32 +17,38 @@ Inv-loop arcs i₀ i = Searched loop arcs i
 abbrev μ-loop : tie.MeasureT-loop
 μ-loop arcs i₀ i = length arcs - i
 
+some-loop-requires : tie.Need-some-loop-requires Inv-loop μ-loop
+some-loop-requires c κs = search needs
+
+returns : tie.Need-returns Inv-loop μ-loop
+returns c = nowhere loop (pairs (c .before .before .before .args .arcs .now)) (sym (c .before .some-loop .ensures) ∙ not-true _ (c .if1 .taken))
+
 loop-holds : tie.Need-loop-holds Inv-loop μ-loop
-loop-holds c = searched-none loop (c .args .arcs .now)
+loop-holds c = searched-none loop (c .before .before .before .args .arcs .now)
 
 add-loop : tie.Need-add-loop Inv-loop μ-loop
 add-loop c = omega arith
 
-mul-if1 : tie.Need-mul-if1 Inv-loop μ-loop
-mul-if1 c = search needs
+mul-if2 : tie.Need-mul-if2 Inv-loop μ-loop
+mul-if2 c = search needs
 
-shared-slice-read-if1 : tie.Need-shared-slice-read-if1 Inv-loop μ-loop
-shared-slice-read-if1 c = search needs
+shared-slice-read-if2 : tie.Need-shared-slice-read-if2 Inv-loop μ-loop
+shared-slice-read-if2 c = search needs
 
-add-if1 : tie.Need-add-if1 Inv-loop μ-loop
-add-if1 c = search needs
+add-if2 : tie.Need-add-if2 Inv-loop μ-loop
+add-if2 c = search needs
 
-mul-if1-2 : tie.Need-mul-if1-2 Inv-loop μ-loop
-mul-if1-2 c = search needs
+mul-if2-2 : tie.Need-mul-if2-2 Inv-loop μ-loop
+mul-if2-2 c = search needs
 
-shared-slice-read-if1-2 : tie.Need-shared-slice-read-if1-2 Inv-loop μ-loop
-shared-slice-read-if1-2 c = search needs
+shared-slice-read-if2-2 : tie.Need-shared-slice-read-if2-2 Inv-loop μ-loop
+shared-slice-read-if2-2 c = search needs
 
-returns : tie.Need-returns Inv-loop μ-loop
-unfolding outside loop
-returns c =
+returns-2 : tie.Need-returns-2 Inv-loop μ-loop
+unfolding loop
+returns-2 c =
     let q = c .before .before .before .before in
-    searched-hit loop (q .before .args .arcs .now) (q .loop .i) (q .loop .inv) (omega arith) (eq-eqb _ _ (c .if1 .taken))
+    searched-hit loop (q .before .before .before .before .args .arcs .now) (q .loop .i) (q .loop .inv) (omega arith) (eq-eqb _ _ (c .if2 .taken))
 
 add-i : tie.Need-add-i Inv-loop μ-loop
 add-i c = search needs
@@ -49,13 +57,15 @@ loop-less : tie.Need-loop-less Inv-loop μ-loop
 loop-less c = omega arith
 
 loop-again : tie.Need-loop-again Inv-loop μ-loop
-unfolding outside loop
+unfolding loop
 loop-again c =
     let q = c .before .before .before .before in
-    searched-next loop (q .before .args .arcs .now) (q .loop .i) (q .loop .inv) (omega arith) (ne-eqb _ _ (c .if1 .left))
+    searched-next loop (q .before .before .before .before .args .arcs .now) (q .loop .i) (q .loop .inv) (omega arith) (ne-eqb _ _ (c .if2 .left))
 
-returns-2 : tie.Need-returns-2 Inv-loop μ-loop
-returns-2 c = searched-end loop (c .before .before .args .arcs .now) (c .before .loop .i) (c .before .loop .inv) (omega arith)
+returns-3 : tie.Need-returns-3 Inv-loop μ-loop
+returns-3 c =
+    let q = c .before in
+    searched-end loop (q .before .before .before .before .args .arcs .now) (q .loop .i) (q .loop .inv) (omega arith)
 
 pub first-loop-spec : {M : Type 1} → statement M
 first-loop-spec =
@@ -63,15 +73,17 @@ first-loop-spec =
     (tie.spec
     Inv-loop
     μ-loop
+    some-loop-requires
+    returns
     loop-holds
     add-loop
-    mul-if1
-    shared-slice-read-if1
-    add-if1
-    mul-if1-2
-    shared-slice-read-if1-2
-    returns
+    mul-if2
+    shared-slice-read-if2
+    add-if2
+    mul-if2-2
+    shared-slice-read-if2-2
+    returns-2
     add-i
     loop-less
     loop-again
-    returns-2)
+    returns-3)

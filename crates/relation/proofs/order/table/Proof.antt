@@ -2,7 +2,7 @@
 use Prim.Native.Nat.{_-_}
 use native.Mathlib.Omega.{arith}
 use mathlib.Core.Path.{refl}
-use Rattle.relation.specs.Table.{columns}
+use Rattle.relation.specs.Columns.{columns}
 use Rattle.relation.proofs.Tables.{Filled, filled-none, filled-next, filled-end}
 use borrow.Author.Needs.{needs}
 use Rattle.relation.proofs.order.table.Statement.{statement}

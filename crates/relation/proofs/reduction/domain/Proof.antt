@@ -3,7 +3,7 @@ use Prim.Native.Nat.{ℕ, _-_}
 use native.Mathlib.Omega.{arith}
 use mathlib.Core.List.{List}
 use mathlib.Core.Bool.{Bool}
-use Rattle.poset.specs.Lists.{any, below}
+use Rattle.poset.specs.Lists.{exists, below}
 use Rattle.poset.proofs.Laws.{any-found}
 use Rattle.relation.specs.Table.{holds}
 use Rattle.relation.proofs.Covers.{Chosen, chosen-none, chosen-next, chosen-end}
@@ -12,7 +12,7 @@ use Rattle.relation.proofs.reduction.domain.Statement.{statement}
 use Rattle.relation.proofs.reduction.domain.Tie as tie
 
 abbrev some : List (List ℕ) → ℕ → Bool
-some t w = any (holds t w) (below 128)
+some t w = exists (holds t w) (below 128)
 
 abbrev Inv-loop : tie.InvT-loop
 Inv-loop t n jobs₀ w₀ jobs w = Chosen (some t) jobs n w

@@ -33,11 +33,8 @@ abbrev μ-loop : tie.MeasureT-loop
 μ-loop after under n tied free parts₀ stack₀ numbers₀ kinds₀ fields₀ forward₀ reverse₀ first p₀ parts stack numbers kinds fields forward reverse p =
     512 - p .count
 
-comparable-requires : tie.Need-comparable-requires Inv-loop μ-loop
-comparable-requires c κs = c .pre .0 .1
-
-incomparable-requires : tie.Need-incomparable-requires Inv-loop μ-loop
-incomparable-requires c κs = c .before .before .pre .0 .1
+compare-requires : tie.Need-compare-requires Inv-loop μ-loop
+compare-requires c κs = (c .before .before .pre .0 .1, refl, refl)
 
 first-entry-requires : tie.Need-first-entry-requires Inv-loop μ-loop
 first-entry-requires c κs =
@@ -56,10 +53,10 @@ module _ (c : tie.After-first-entry Inv-loop μ-loop) where
   under = holds (s .args .under .now)
 
   abbrev tied : Rel
-  tied = holds (c .before .before .before .before .before .before .before .comparable .result)
+  tied = holds (c .before .before .before .before .before .compare .last .1 .1 .1 .0)
 
   abbrev free : Rel
-  free = holds (c .before .before .before .before .before .incomparable .result)
+  free = holds (c .before .before .before .before .before .compare .last .1 .1 .1 .1 .0)
 
   abbrev first : ℕ
   first = c .first-entry .result
@@ -84,7 +81,7 @@ module _ (c : tie.After-first-entry Inv-loop μ-loop) where
   has-tables : Tables (s .args .n) order under tied free
   has-tables =
       tables _ _ _ _ _ (s .pre .0 .1) (s .pre .1 .0) (s .pre .1 .1 .0) (s .pre .1 .1 .1)
-      (c .before .before .before .before .before .before .before .comparable .ensures) (c .before .before .before .before .before .incomparable .ensures)
+      (c .before .before .before .before .before .compare .ensures .0) (c .before .before .before .before .before .compare .ensures .1)
 
   on-stack : getD (begun .stack) 0 [] ≡ c .first-entry .ensures .all
   on-stack = ap (λ l. getD l 0 []) (c .first-entry .ensures .on-stack)
@@ -311,8 +308,7 @@ shape-of-spec =
     (tie.spec
     Inv-loop
     μ-loop
-    comparable-requires
-    incomparable-requires
+    compare-requires
     first-entry-requires
     spread-requires
     put-group-requires
