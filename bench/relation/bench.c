@@ -35,9 +35,10 @@ static void spread(uint64_t *restrict col, uint64_t *restrict other, int at, uin
 static void closed(const uint16_t *arcs, size_t numbers, int n, set after[128]) {
     uint64_t lo[128], hi[128];
     memset(after, 0, 128 * sizeof(set));
-    // one arc of each half of the list at a time: arcs side by side are often of one row, and the second would wait for the first
-    const uint16_t *other = arcs + numbers / 4 * 2;
-    for (size_t i = 0; i < numbers / 2 - numbers / 4; i++) { put(&after[arcs[2 * i]], arcs[2 * i + 1]); put(&after[other[2 * i]], other[2 * i + 1]); }
+    // one arc of each quarter of the list at a time: arcs side by side are often of one row, and the second would wait for the first
+    size_t quarter = numbers / 8;
+    for (size_t i = 0; i < numbers / 2 - 3 * quarter; i++)
+        for (size_t k = 2 * i, j = 0; j < 4; j++, k += 2 * quarter) put(&after[arcs[k]], arcs[k + 1]);
     set reached = {{0, 0}};
     for (int i = 0; i < n; i++) { lo[i] = after[i].w[0]; hi[i] = after[i].w[1]; reached = or_(reached, after[i]); }
     for (int k = 0; k < n; k++) {

@@ -230,31 +230,54 @@ module _ (xs : List ℕ) where
             ap₂ (arc (pairs xs)) (sym (eqb-true _ u (and-left _ _ d))) (sym (eqb-true _ v (and-right (eqb (getD xs (2 * k) 0) u) _ d)))
             ∙ arc-mem (pairs xs) _ _ .1 (pairs-at xs k l)
 
-  -- a table that has the first i arcs, i from the half on, and no others
-  pub record Built (half : ℕ) (t : List (List ℕ)) (i : ℕ) : Type 0 where
+  -- a table has i arcs from place o on
+  abbrev From : List (List ℕ) → ℕ → ℕ → Type 0
+  From t o i = (k : ℕ) → k < i → At t (o + k)
+
+  from-next
+      : (t t′ : List (List ℕ)) (o i : ℕ) → ((u v : ℕ) → holds t u v ≡ true → holds t′ u v ≡ true) → At t′ (o + i) → From t o i → From t′ o (i + 1)
+  from-next t t′ o i keeps here b k m = elim (ℕ-discrete k i) [ yes e ↦ rw e here | no d ↦ keeps _ _ (b k (omega arith)) ]
+
+  -- a table that has the first i arcs of each quarter, and no others
+  pub record Built (q : ℕ) (t : List (List ℕ)) (i : ℕ) : Type 0 where
     pub words : Words t
     pub from : (u v : ℕ) → holds t u v ≡ true → arc (pairs xs) u v ≡ true
-    pub low : (k : ℕ) → k < i → At t k
-    pub high : (k : ℕ) → k < i → At t (half + k)
+    pub first : From t 0 i
+    pub second : From t q i
+    pub third : From t (2 * q) i
+    pub fourth : From t (3 * q) i
 
-  pub built-none : (half : ℕ) → Built half (replicate 128 (replicate 2 0)) 0
-  built-none half =
+  pub built-none : (q : ℕ) → Built q (replicate 128 (replicate 2 0)) 0
+  built-none q =
       record {
         words = λ u l. ap length (getD-replicate 128 u (replicate 2 0) [] l);
         from = λ u v e. absurd (clash e (holds-blank 128 u v));
-        low = λ k l. absurd (omega arith);
-        high = λ k l. absurd (omega arith);
+        first = λ k l. absurd (omega arith);
+        second = λ k l. absurd (omega arith);
+        third = λ k l. absurd (omega arith);
+        fourth = λ k l. absurd (omega arith);
       }
 
-  module _ (half : ℕ) (t : List (List ℕ)) (i : ℕ) (b : Built half t i) where
-    pub built-end : half ≡ length xs / 4 → length xs / 2 - half ≤ i → (u v : ℕ) → holds t u v ≡ arc (pairs xs) u v
+  module _ (q : ℕ) (t : List (List ℕ)) (i : ℕ) (b : Built q t i) where
+    pub built-end : q ≡ length xs / 8 → length xs / 2 - 3 * q ≤ i → (u v : ℕ) → holds t u v ≡ arc (pairs xs) u v
     built-end e l u v = same-test _ _ (b .from u v) back
       where
+        within : (o k : ℕ) → From t o i → o ≤ k → k < o + i → At t k
+        within o k f m n = let s : o + (k - o) ≡ k = omega arith in rw s at (f (k - o) (omega arith))
+
         at : (k : ℕ) → 2 * k + 1 < length xs → At t k
         at k m =
             elim (decLt k i) [
-              | yes d ↦ b .low k d
-              | no d ↦ let s : half + (k - half) ≡ k = omega arith in rw s at (b .high (k - half) (omega arith))
+              | yes d ↦ within 0 k (b .first) (omega arith) (omega arith)
+              | no d ↦
+                  elim (decLt k (q + i)) [
+                    | yes d′ ↦ within q k (b .second) (omega arith) d′
+                    | no d′ ↦
+                        elim (decLt k (2 * q + i)) [
+                          | yes d″ ↦ within (2 * q) k (b .third) (omega arith) d″
+                          | no d″ ↦ within (3 * q) k (b .fourth) (omega arith) (omega arith)
+                        ]
+                  ]
             ]
 
         back : arc (pairs xs) u v ≡ true → holds t u v ≡ true
@@ -262,18 +285,27 @@ module _ (xs : List ℕ) where
             let f = pairs-found xs (arc-mem (pairs xs) u v .0 d) in
             subst (λ (a : Arc). holds t (a .0) (a .1) ≡ true) (f .2) (at (f .0) (f .1))
 
-    pub built-next
-        : 2 * (half + i) + 1 < length xs → (t′ t″ : List (List ℕ)) → Puts t i t′ → Puts t′ (half + i) t″ → Words t″ → Built half t″ (i + 1)
-    built-next l t′ t″ p q w =
-        record {
-          words = w;
-          from = put-from t′ (half + i) t″ q l (put-from t i t′ p (omega arith) (b .from));
-          low = λ k m. elim (ℕ-discrete k i) [ yes e ↦ rw e (later _ _ (put-here t i t′ p)) | no d ↦ kept _ _ (b .low k (omega arith)) ];
-          high = λ k m. elim (ℕ-discrete k i) [ yes e ↦ rw e (put-here t′ (half + i) t″ q) | no d ↦ kept _ _ (b .high k (omega arith)) ];
-        }
-      where
-        later : (u v : ℕ) → holds t′ u v ≡ true → holds t″ u v ≡ true
-        later = put-keeps t′ (half + i) t″ q
+    module _ (l : 2 * (3 * q + i) + 1 < length xs) (t₁ t₂ t₃ t₄ : List (List ℕ))
+        (p₁ : Puts t i t₁) (p₂ : Puts t₁ (q + i) t₂) (p₃ : Puts t₂ (2 * q + i) t₃) (p₄ : Puts t₃ (3 * q + i) t₄) where
+      keeps₃ : (u v : ℕ) → holds t₂ u v ≡ true → holds t₄ u v ≡ true
+      keeps₃ u v e = put-keeps t₃ (3 * q + i) t₄ p₄ u v (put-keeps t₂ (2 * q + i) t₃ p₃ u v e)
 
-        kept : (u v : ℕ) → holds t u v ≡ true → holds t″ u v ≡ true
-        kept u v e = later u v (put-keeps t i t′ p u v e)
+      keeps₂ : (u v : ℕ) → holds t₁ u v ≡ true → holds t₄ u v ≡ true
+      keeps₂ u v e = keeps₃ u v (put-keeps t₁ (q + i) t₂ p₂ u v e)
+
+      keeps : (u v : ℕ) → holds t u v ≡ true → holds t₄ u v ≡ true
+      keeps u v e = keeps₂ u v (put-keeps t i t₁ p₁ u v e)
+
+      pub built-next : Words t₄ → Built q t₄ (i + 1)
+      built-next w =
+          record {
+            words = w;
+            from =
+                put-from t₃ (3 * q + i) t₄ p₄ l
+                (put-from t₂ (2 * q + i) t₃ p₃ (omega arith) (put-from t₁ (q + i) t₂ p₂ (omega arith) (put-from t i t₁ p₁ (omega arith) (b .from))));
+            first = let z : 0 + i ≡ i = omega arith in from-next t t₄ 0 i keeps (rw z (keeps₂ _ _ (put-here t i t₁ p₁))) (b .first);
+            second = from-next t t₄ q i keeps (keeps₃ _ _ (put-here t₁ (q + i) t₂ p₂)) (b .second);
+            third =
+                from-next t t₄ (2 * q) i keeps (put-keeps t₃ (3 * q + i) t₄ p₄ _ _ (put-here t₂ (2 * q + i) t₃ p₃)) (b .third);
+            fourth = from-next t t₄ (3 * q) i keeps (put-here t₃ (3 * q + i) t₄ p₄) (b .fourth);
+          }

@@ -87,18 +87,20 @@ fn put(t: &mut [[u64; 2]; 128], arcs: &[u16], k: usize)
     t[u][v / 64] |= 1 << (v % 64);
 }
 
-// The table of the arcs. A step takes one arc of each half, since arcs side by side are often of one row, and the second would wait for
-// the first. Where their number is odd, the middle one is in both halves.
+// The table of the arcs. A step takes one arc of each quarter, since arcs side by side are often of one row, and the second would wait for
+// the first. Where their number is no multiple of four, quarters overlap.
 pub fn table_of(arcs: &[u16]) -> [[u64; 2]; 128]
     requires { ⌜ Within 128 (pairs (now arcs)) ⌝ }
     ensures { λ r. ⌜ ((u v : ℕ) → holds r u v ≡ arc (pairs (now (arcs .entry))) u v) ⌝ }
 {
     let none = [0u64; 2];
     let mut t = [none; 128];
-    let half = arcs.len() / 4;
-    for i in 0..arcs.len() / 2 - half {
+    let quarter = arcs.len() / 8;
+    for i in 0..arcs.len() / 2 - 3 * quarter {
         put(&mut t, arcs, i);
-        put(&mut t, arcs, half + i);
+        put(&mut t, arcs, quarter + i);
+        put(&mut t, arcs, 2 * quarter + i);
+        put(&mut t, arcs, 3 * quarter + i);
     }
     t
 }

@@ -1,5 +1,5 @@
 -- `relation::arcs::table_of` meets its contract.
-use Prim.Native.Nat.{_-_, _/_, _≤_}
+use Prim.Native.Nat.{_-_, _*_, _/_}
 use native.Mathlib.Omega.{arith}
 use mathlib.Core.Path.{refl}
 use lib.ListN.{length}
@@ -9,10 +9,13 @@ use Rattle.relation.proofs.arcs.table_of.Statement.{statement}
 use Rattle.relation.proofs.arcs.table_of.Tie as tie
 
 abbrev Inv-loop : tie.InvT-loop
-Inv-loop arcs t₀ half i₀ i-end t i = Built arcs half t i
+Inv-loop arcs t₀ quarter i₀ i-end t i = Built arcs quarter t i
 
 abbrev μ-loop : tie.MeasureT-loop
-μ-loop arcs t₀ half i₀ i-end t i = length arcs / 2 - half - i
+μ-loop arcs t₀ quarter i₀ i-end t i = length arcs / 2 - 3 * quarter - i
+
+mul-i-end : tie.Need-mul-i-end Inv-loop μ-loop
+mul-i-end c = omega arith
 
 sub-i-end : tie.Need-sub-i-end Inv-loop μ-loop
 sub-i-end c = omega arith
@@ -29,6 +32,24 @@ add-put c = omega arith
 put-requires-2 : tie.Need-put-requires-2 Inv-loop μ-loop
 put-requires-2 c κs = (c .before .before .before .before .before .before .pre, (omega arith, c .before .put .ensures .0))
 
+mul-put : tie.Need-mul-put Inv-loop μ-loop
+mul-put c = omega arith
+
+add-put-2 : tie.Need-add-put-2 Inv-loop μ-loop
+add-put-2 c = omega arith
+
+put-requires-3 : tie.Need-put-requires-3 Inv-loop μ-loop
+put-requires-3 c κs = (c .before .before .before .before .before .before .before .before .pre, (omega arith, c .before .put2 .ensures .0))
+
+mul-put-2 : tie.Need-mul-put-2 Inv-loop μ-loop
+mul-put-2 c = omega arith
+
+add-put-3 : tie.Need-add-put-3 Inv-loop μ-loop
+add-put-3 c = omega arith
+
+put-requires-4 : tie.Need-put-requires-4 Inv-loop μ-loop
+put-requires-4 c κs = (c .before .before .before .before .before .before .before .before .before .before .pre, (omega arith, c .before .put3 .ensures .0))
+
 add-i : tie.Need-add-i Inv-loop μ-loop
 add-i c = search needs
 
@@ -37,10 +58,12 @@ loop-less c = omega arith
 
 loop-again : tie.Need-loop-again Inv-loop μ-loop
 loop-again c =
-    let p = c .before .before in
-    let l = p .before .before .before in
-    built-next (l .before .before .args .arcs .now) _ (l .loop .t) (l .loop .i) (l .loop .inv) (omega arith) _ _
-    (p .put .ensures .1) (c .put2 .ensures .1) (c .put2 .ensures .0)
+    let third = c .before .before in
+    let second = third .before .before in
+    let first = second .before .before in
+    let l = first .before .before .before in
+    built-next (l .before .before .args .arcs .now) _ (l .loop .t) (l .loop .i) (l .loop .inv) (omega arith) _ _ _ _
+    (first .put .ensures .1) (second .put2 .ensures .1) (third .put3 .ensures .1) (c .put4 .ensures .1) (c .put4 .ensures .0)
 
 returns : tie.Need-returns Inv-loop μ-loop
 returns c =
@@ -52,11 +75,18 @@ table-of-spec =
     (tie.spec
     Inv-loop
     μ-loop
+    mul-i-end
     sub-i-end
     loop-holds
     put-requires
     add-put
     put-requires-2
+    mul-put
+    add-put-2
+    put-requires-3
+    mul-put-2
+    add-put-3
+    put-requires-4
     add-i
     loop-less
     loop-again
