@@ -2,25 +2,36 @@
 use Prim.Native.Nat.{ℕ, _+_, _*_, _%_, _≤_, _<_}
 use mathlib.Core.Path.{_≡_}
 use mathlib.Core.List.{List}
+use mathlib.Core.Bool.{true}
 use mathlib.Core.Logic.{_⊎_, _↔_, _≢_}
-use lib.ListN.{length, take, replicate}
-use Rattle.poset.specs.Order.{Arc, before, HasN}
+use lib.ListN.{length, take, replicate, getD}
+use mir.Syntax.{w8}
+use mir.Val.{Fits}
+use Rattle.poset.specs.Order.{Arc, Run, before, HasN}
 use Rattle.poset.specs.Tree.{Tree, Means, HasTree}
+use Rattle.poset.proofs.Theorems.{before-is-run}
 use Rattle.relation.specs.Arcs.{pairs}
 use Rattle.record.specs.Bits.{AllBelow}
 use Rattle.record.specs.Layout.{IsRecord}
 use Rattle.sheet.specs.Text.{LineForm, Continues}
 use Rattle.sheet.proofs.Theorems.{scan-place}
+use Rattle.reader.proofs.Whole.{all-below}
+use Rattle.analysis.specs.Bounds.{longestSheet}
 use Rattle.analysis.specs.Outcome.{Rooms, roomy, Outcome, sheetOutcome, pairOutcome, recordOutcome}
 use Rattle.analysis.specs.Sentences.{limits, SheetNumber, PairNumber, RecordNumber}
 use Rattle.analysis.specs.Claims.{None, Untouched, Named, Unnamed, FirstN, places, Yield, RecordYield, Alike}
 use Rattle.analysis.specs.Result.{Gives}
 use Rattle.analysis.specs.declared.Analysis.{Analysis}
+use Rattle.analysis.proofs.Fates.{clear-within}
 use Rattle.analysis.proofs.Inputs.{sheet-fate, pair-fate, record-fate}
 use Rattle.analysis.proofs.Answers
 use Rattle.analysis.proofs.ReadBack
 use Rattle.analysis.proofs.Sheets
 use Rattle.analysis.proofs.Crossed
+
+-- Theorems on a record ask `AllBelow 256` of its bytes. Every slice of bytes meets it: the kit gives of each element of a `&[u8]` that it fits 8 bits.
+pub slice-below : (bytes : List ℕ) → ((i : ℕ) → Fits w8 (getD bytes i 0)) → AllBelow 256 bytes
+slice-below bytes fit = all-below 256 bytes (λ i. fit i .fits)
 
 -- Demand 1.
 
@@ -130,10 +141,15 @@ pub record-of-a-sheet
     → (s : List ℕ) × (sheetOutcome roomy s .verdict .number ≡ 0) × (sheetOutcome roomy s .bytes ≡ bytes)
 record-of-a-sheet room bytes below = Sheets.record-sheet room bytes (record-fate room bytes below)
 
--- Demand 3, for sheets: in the line form, not too long, and no sentence tested ahead of 8 holds.
+-- Demand 3. Its order is the followed-on one: where no sentence tested ahead of 8 holds, u is before v exactly when a run of orders leads from u to v.
+
+pub before-run : (n : ℕ) (arcs : List Arc) → None (limits n arcs) → (u v : ℕ) → (before n arcs u v ≡ true) ↔ Run arcs u v
+before-run n arcs clear = before-is-run n arcs (clear-within n arcs clear)
+
+-- For sheets: in the line form, not too long, and no sentence tested ahead of 8 holds.
 
 module _
-    (rooms : Rooms) (s : List ℕ) (n : ℕ) (arcs : List Arc) (short : length s ≤ 32772) (form : LineForm s n arcs) (clear : None (limits n arcs)) where
+    (rooms : Rooms) (s : List ℕ) (n : ℕ) (arcs : List Arc) (short : length s ≤ longestSheet) (form : LineForm s n arcs) (clear : None (limits n arcs)) where
   -- crossed exactly when no tree of any shape means the order
   pub crossed-no-tree-sheet : (sheetOutcome rooms s .verdict .number ≡ 8) ↔ (HasTree n (before n arcs) → ⊥)
   crossed-no-tree-sheet = Crossed.sheet-told rooms s n arcs short form clear .no-tree
@@ -151,7 +167,7 @@ module _
       : sheetOutcome rooms s .verdict .number ≡ 0 → (t : Tree) × Means n t (before n arcs) × IsRecord (sheetOutcome rooms s .bytes) n t
   accepted-tree-sheet = Crossed.sheet-told rooms s n arcs short form clear .spelt-tree
 
--- Demand 3, for pair lists.
+-- For pair lists.
 
 module _ (rooms : Rooms) (n : ℕ) (list : List ℕ) (even : length list % 2 ≡ 0) (clear : None (limits n (pairs list))) where
   pub crossed-no-tree-pairs : (pairOutcome rooms n list .verdict .number ≡ 8) ↔ (HasTree n (before n (pairs list)) → ⊥)

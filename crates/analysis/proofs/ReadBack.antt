@@ -1,4 +1,4 @@
--- A record read back gives what was handed back with it, and every record comes from a sheet.
+-- The record of an accepted input, read, gives what was handed back with it.
 use Prim.Native.Nat.{ℕ, _*_, _≤_}
 use mathlib.Core.Path.{_≡_, sym, ap, _∙_}
 use mathlib.Core.List.{List}

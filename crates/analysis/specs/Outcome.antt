@@ -12,6 +12,7 @@ use Rattle.relation.specs.Arcs.{pairs, place, outside, loop}
 use Rattle.record.specs.Layout.{layout}
 use Rattle.record.specs.Decode.{decode}
 use Rattle.sheet.specs.Scan.{Read, sheet, broken, scan}
+use Rattle.analysis.specs.Bounds.{longestSheet}
 use Rattle.analysis.specs.Answer.{Answer, answer}
 
 -- the room lent for the record and for the reduced orders, in bytes
@@ -89,9 +90,9 @@ unfoldable pub scanned : Rooms → Read → Outcome
 scanned rooms (broken at arcs) = refuse 2 at 0 0 0
 scanned rooms (sheet n arcs) = arcOutcome rooms n arcs
 
--- 1: the sheet is longer than 32,772 bytes. The analysis of a sheet.
+-- 1: the sheet is longer than `longestSheet` bytes. The analysis of a sheet.
 unfoldable pub sheetOutcome : Rooms → List ℕ → Outcome
-sheetOutcome rooms s = elim (ltb 32772 (length s)) [ true ↦ refuse 1 0 0 0 0 | false ↦ scanned rooms (scan s) ]
+sheetOutcome rooms s = elim (ltb longestSheet (length s)) [ true ↦ refuse 1 0 0 0 0 | false ↦ scanned rooms (scan s) ]
 
 -- The analysis of a pair list: an odd list is 2 at 0.
 unfoldable pub pairOutcome : Rooms → ℕ → List ℕ → Outcome

@@ -29,6 +29,9 @@ pub enum Verdict {
     NoRecord,
 }
 
+// The bytes of the longest sheet.
+pub const LONGEST_SHEET: usize = 32772;
+
 // The answer, and the two sequences, whose entries from the job count on are 0; a refusal has none.
 pub struct Analysis {
     pub verdict: Verdict,
@@ -61,7 +64,7 @@ pub fn analyse_sheet(sheet: &[u8], bytes: &mut [u8], area: &mut [u8]) -> Analysi
     ensures { λ r. ⌜ Gives (sheetOutcome (rooms (now (bytes .entry)) (now (area .entry))) (now (sheet .entry)))
         (now (bytes .entry)) (now (area .entry)) r (now (bytes .exit)) (now (area .exit)) ⌝ }
 {
-    if 32772 < sheet.len() {
+    if LONGEST_SHEET < sheet.len() {
         return refused(Verdict::Long);
     }
     let mut list = [0u16; 8192];

@@ -1,57 +1,56 @@
 // Reads a sheet from standard input and prints what it gives.
+use analysis::LONGEST_SHEET;
 use libc::STDIN_FILENO;
 use libc::STDOUT_FILENO;
 use printer::outcome;
-ghost use Prim.Native.Nat.{_≤_};
+ghost use Prim.Native.Nat.{_+_, _≤_};
 ghost use mathlib.Core.Path.{_≡_};
 ghost use lib.ListN.{length};
+ghost use Rattle.ordersheet.specs.Reading.{bufferSize, told, MoreRead, InputRead};
 
-// How many bytes the buffer holds, and whether every read went well.
+// What a read gave: whether it went well, how many bytes it read, and how many the buffer holds then.
 struct Taken {
     ok: bool,
+    got: usize,
     len: usize,
 }
 
-// One read more, after the first `done` bytes.
-fn read_more(buf: &mut [u8], done: usize) -> Taken
-    requires { ⌜ done ≤ length (now buf) ⌝ }
-    ensures { λ r. ⌜ (done ≤ r .len) × (r .len ≤ length (now (buf .entry))) ⌝ }
+// A read into a part of the buffer, after the first `done` bytes, has answered so.
+fn told(answer: isize, done: usize, part: &[u8]) -> Taken
+    requires { ⌜ done + length (now part) ≤ bufferSize ⌝ }
+    ensures { λ r. ⌜ r ≡ told answer done (length (now (part .entry))) ⌝ }
 {
-    let got = libc::read(STDIN_FILENO, &mut buf[done..]);
-    if got < 0 {
-        os::fail(b"read");
-        return Taken {
-            ok: false,
-            len: done,
-        };
-    }
-    let count = io::count(got, &buf[done..]);
+    let got = io::count(answer, part);
     Taken {
-        ok: true,
-        len: done + count,
+        ok: answer >= 0,
+        got,
+        len: done + got,
     }
 }
 
-// Reads until the input ends, the buffer is full or a read fails.
-fn read_input(buf: &mut [u8]) -> Taken
-    ensures { λ r. ⌜ r .len ≤ length (now (buf .entry)) ⌝ }
+// One read more. The first `done` bytes stay.
+fn read_more(buf: &mut [u8], done: usize) -> Taken
+    requires { ⌜ (done ≤ bufferSize) × (length (now buf) ≡ bufferSize) ⌝ }
+    ensures { λ r. ⌜ MoreRead done (now (buf .entry)) (now (buf .exit)) r ⌝ }
 {
-    let mut done = 0;
-    while done < buf.len() {
-        let more = read_more(buf, done);
-        let len = more.len;
-        if !more.ok {
-            return Taken { ok: false, len };
+    let answer = libc::read(STDIN_FILENO, &mut buf[done..]);
+    told(answer, done, &buf[done..])
+}
+
+// Reads until the input ends, the buffer is full or a read fails: what the last read gave.
+fn read_input(buf: &mut [u8]) -> Taken
+    requires { ⌜ length (now buf) ≡ bufferSize ⌝ }
+    ensures { λ r. ⌜ InputRead r ⌝ }
+{
+    let mut last = read_more(buf, 0);
+    while last.len < buf.len() {
+        if last.got == 0 {
+            return last;
         }
-        if len == done {
-            return Taken { ok: true, len };
-        }
-        done = len;
+        let more = read_more(buf, last.len);
+        last = more;
     }
-    Taken {
-        ok: true,
-        len: done,
-    }
+    last
 }
 
 fn write_text(text: &[u8]) {
@@ -62,12 +61,13 @@ fn write_text(text: &[u8]) {
 
 fn main() {
     // one byte more than the longest sheet: what is longer is read no further
-    let mut sheet = [0u8; 32773];
-    let taken = read_input(&mut sheet);
-    if !taken.ok {
+    let mut sheet = [0u8; LONGEST_SHEET + 1];
+    let input = read_input(&mut sheet);
+    if !input.ok {
+        os::fail(b"read");
         return;
     }
-    let len = taken.len;
+    let len = input.len;
     let mut text = [0u8; 40000];
     let end = outcome::sheet_text(&sheet[..len], &mut text);
     write_text(&text[..end]);

@@ -1,8 +1,10 @@
 -- The input and the text are parts of their buffers.
 use borrow.Author.Needs.{needs}
 use mathlib.Core.Path.{sym}
+use native.Mathlib.Omega.{arith}
 use lib.Seq.{length-take-le}
 use Rattle.printer.proofs.Buffers.{prints-fits, prints-size}
+use Rattle.ordersheet.proofs.Counts.{input-few}
 use Rattle.ordersheet.proofs.main.Statement.{statement}
 use Rattle.ordersheet.proofs.main.Tie as tie
 
@@ -12,11 +14,19 @@ slice-aggregate-read-input c = search needs
 read-input-requires : tie.Need-read-input-requires
 read-input-requires c κs = search needs
 
+slice-aggregate-fail : tie.Need-slice-aggregate-fail
+slice-aggregate-fail c = search needs
+
+fail-requires : tie.Need-fail-requires
+fail-requires c κs = search needs
+
 returns : tie.Need-returns
 returns c = search needs
 
 array-share-prefix-sheet : tie.Need-array-share-prefix-sheet
-array-share-prefix-sheet c = search needs
+array-share-prefix-sheet c =
+    let r = c .before .before .before .read-input in
+    omega (arith, input-few (r .ensures), r .kept)
 
 slice-aggregate-sheet-text : tie.Need-slice-aggregate-sheet-text
 slice-aggregate-sheet-text c =
@@ -44,6 +54,8 @@ main-spec =
     (tie.spec
     slice-aggregate-read-input
     read-input-requires
+    slice-aggregate-fail
+    fail-requires
     returns
     array-share-prefix-sheet
     slice-aggregate-sheet-text

@@ -1,0 +1,6 @@
+-- Bounds, each named once.
+use Prim.Native.Nat.{ℕ}
+
+-- the bytes of the longest sheet
+abbrev pub longestSheet : ℕ
+longestSheet = 32772
