@@ -1,4 +1,4 @@
--- The readers of groups meet their contracts, each answer by a law over the kind. The measure is twice the bits left, and one more for a
+-- The readers of groups meet their contracts, each answer by a law over the kind. The measure is twice the bits left of the bytes, and one more for a
 -- reader of several children. The invariant of the loops: some children are read, and what may stand there after them may stand after all.
 use Prim.Native.Nat.{ℕ, _<_}
 use mathlib.Core.Path.{subst}
@@ -40,16 +40,16 @@ use Rattle.reader.proofs.groups.+chain+chain_child+side+side_child.{sta
 use Rattle.reader.proofs.groups.+chain+chain_child+side+side_child.Tie.{close}
 
 abbrev μ-chain : Measures 4 chain-kinds.ps ℕ
-μ-chain κs a = childrenMeasure (a .1 .1 .1 .0) (a .1 .1 .1 .1 .0)
+μ-chain κs a = childrenMeasure (a .0 .now) (a .1 .1 .1 .0) (a .1 .1 .1 .1 .0)
 
 abbrev μ-chain-child : Measures 4 chain-child-kinds.ps ℕ
-μ-chain-child κs a = childMeasure (a .1 .1 .0) (a .1 .1 .1 .0)
+μ-chain-child κs a = childMeasure (a .0 .now) (a .1 .1 .0) (a .1 .1 .1 .0)
 
 abbrev μ-side : Measures 4 side-kinds.ps ℕ
-μ-side κs a = childrenMeasure (a .1 .1 .1 .0) (a .1 .1 .1 .1 .0)
+μ-side κs a = childrenMeasure (a .0 .now) (a .1 .1 .1 .0) (a .1 .1 .1 .1 .0)
 
 abbrev μ-side-child : Measures 4 side-child-kinds.ps ℕ
-μ-side-child κs a = childMeasure (a .1 .1 .1 .0) (a .1 .1 .1 .1 .0)
+μ-side-child κs a = childMeasure (a .0 .now) (a .1 .1 .1 .0) (a .1 .1 .1 .1 .0)
 
 abbrev chain-at : ℕ → In 4 chain-kinds.ps
 chain-at t = and 4 chain-kinds.ps (is 4 chain-kinds.ps μ-chain t) chain.Pre
@@ -249,10 +249,12 @@ chain-child-add-side t c =
     let p = n .before .before .before .pre .1 in omega (arith, p .opened, p .few)
 
 chain-child-side-requires : (t : ℕ) → chain-child-lts.Need-side-requires (chain-child-calls t) (chain-child-at t) chain-child.Post
+unfolding kindBit
 chain-child-side-requires t c κs =
     let n = c .before .before .before .before .before .before .before .before in
     let p = n .before .before .before .pre .1 in
-    call-children _ _ _ _ _ _ _ _ p (omega (arith, c .before .before .before .if3 .left)) (chain-child-node t n .small) (n .before .before .before .pre .0)
+    call-children parallel _ _ (chain-child-node t n) (c .before .before .before .before .if2 .left) p
+    (omega (arith, c .before .before .before .if3 .left)) (n .before .before .before .pre .0)
 
 chain-child-returns-4 : (t : ℕ) → chain-child-lts.Need-returns-4 (chain-child-calls t) (chain-child-at t) chain-child.Post
 unfolding kindBit
@@ -387,10 +389,12 @@ side-child-add-chain t c =
     let p = n .before .before .before .pre .1 in omega (arith, p .opened, p .few)
 
 side-child-chain-requires : (t : ℕ) → side-child-lts.Need-chain-requires (side-child-calls t) (side-child-at t) side-child.Post
+unfolding kindBit
 side-child-chain-requires t c κs =
     let n = c .before .before .before .before .before .before .before .before in
     let p = n .before .before .before .pre .1 in
-    call-children _ _ _ _ _ _ _ _ p (omega (arith, c .before .before .before .if3 .left)) (side-child-node t n .small) (n .before .before .before .pre .0)
+    call-children series _ _ (side-child-node t n) (c .before .before .before .before .if2 .left) p
+    (omega (arith, c .before .before .before .if3 .left)) (n .before .before .before .pre .0)
 
 side-child-above-requires : (t : ℕ) → side-child-lts.Need-above-requires (side-child-calls t) (side-child-at t) side-child.Post
 side-child-above-requires t c κs = search needs
