@@ -19,11 +19,11 @@ ghost use Rattle.analysis.specs.Outcome.{decomposed, ordered};
 ghost use Rattle.analysis.specs.Result.{Gives, rooms, crossedBy};
 
 // An order that no tree means: the first N.
-fn crossed(after: &[[u64; 2]; 128], under: &[[u64; 2]; 128], n: usize) -> Analysis
+fn crossed(after: [[u64; 2]; 128], under: &[[u64; 2]; 128], n: usize) -> Analysis
     requires { ⌜ n ≤ 128 ⌝ }
-    requires { ⌜ Inside n (now after) ⌝ }
-    requires { ⌜ ((u v : ℕ) → holds (now under) u v ≡ holds (now after) v u) ⌝ }
-    ensures { λ r. ⌜ r ≡ crossedBy (firstN n (holds (now (after .entry)))) ⌝ }
+    requires { ⌜ Inside n after ⌝ }
+    requires { ⌜ ((u v : ℕ) → holds (now under) u v ≡ holds after v u) ⌝ }
+    ensures { λ r. ⌜ r ≡ crossedBy (firstN n (holds after)) ⌝ }
 {
     let four = search::first_n(after, under, n);
     match four {
@@ -33,14 +33,14 @@ fn crossed(after: &[[u64; 2]; 128], under: &[[u64; 2]; 128], n: usize) -> Analys
 }
 
 // A strict order: its record and its reduced orders, each written once both are known to fit.
-fn take_apart(after: &[[u64; 2]; 128], n: usize, bytes: &mut [u8], area: &mut [u8]) -> Analysis
+fn take_apart(after: [[u64; 2]; 128], n: usize, bytes: &mut [u8], area: &mut [u8]) -> Analysis
     requires { ⌜ (0 < n) × (n ≤ 128) ⌝ }
-    requires { ⌜ Strict n (holds (now after)) ⌝ }
-    requires { ⌜ Inside n (now after) ⌝ }
-    ensures { λ r. ⌜ Gives (decomposed (rooms (now (bytes .entry)) (now (area .entry))) n (holds (now (after .entry))))
+    requires { ⌜ Strict n (holds after) ⌝ }
+    requires { ⌜ Inside n after ⌝ }
+    ensures { λ r. ⌜ Gives (decomposed (rooms (now (bytes .entry)) (now (area .entry))) n (holds after))
         (now (bytes .entry)) (now (area .entry)) r (now (bytes .exit)) (now (area .exit)) ⌝ }
 {
-    let under = order::transposed(*after, n);
+    let under = order::transposed(after, n);
     let written = writing::write_record(after, &under, n);
     if !written.ok {
         return crossed(after, &under, n);
@@ -73,9 +73,9 @@ pub fn of_arcs(list: &[u16], n: usize, bytes: &mut [u8], area: &mut [u8]) -> Ana
         (now (bytes .entry)) (now (area .entry)) r (now (bytes .exit)) (now (area .exit)) ⌝ }
 {
     let after = order::closure(arcs::table_of(list), n);
-    let circle = order::first_on_cycle(&after, n);
+    let circle = order::first_on_cycle(after, n);
     match circle {
         Found::At(u) => refused(Verdict::Cycle(u)),
-        Found::Nothing => take_apart(&after, n, bytes, area),
+        Found::Nothing => take_apart(after, n, bytes, area),
     }
 }

@@ -21,7 +21,7 @@ pub fn of_bytes(bytes: &[u8], area: &mut [u8]) -> Analysis
     let forward = read.forward;
     let reverse = read.reverse;
     let after = ahead::order_of(&forward, &reverse, read.count);
-    let reduced = reduction::reduced(&after, read.count);
+    let reduced = reduction::reduced(after, read.count);
     let count = reduction::pair_count(&reduced, read.count);
     if area.len() < 2 * count {
         return refused(Verdict::ArcRoom);

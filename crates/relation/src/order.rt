@@ -111,9 +111,9 @@ pub fn closure(t: [[u64; 2]; 128], n: usize) -> [[u64; 2]; 128]
 }
 
 // The smallest job below n that is before itself.
-pub fn first_on_cycle(t: &[[u64; 2]; 128], n: usize) -> Found
+pub fn first_on_cycle(t: [[u64; 2]; 128], n: usize) -> Found
     requires { ⌜ n ≤ 128 ⌝ }
-    ensures { λ r. ⌜ found r ≡ firstOnCycle n (holds (now (t .entry))) ⌝ }
+    ensures { λ r. ⌜ found r ≡ firstOnCycle n (holds t) ⌝ }
 {
     for u in 0..n {
         if set::contains(t[u], u) {

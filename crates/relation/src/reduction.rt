@@ -47,17 +47,17 @@ fn beyond(t: &[[u64; 2]; 128], dom: [u64; 2], u: usize, n: usize) -> [u64; 2]
 }
 
 // The transitive reduction of an order on the jobs below n.
-pub fn reduced(t: &[[u64; 2]; 128], n: usize) -> [[u64; 2]; 128]
+pub fn reduced(t: [[u64; 2]; 128], n: usize) -> [[u64; 2]; 128]
     requires { ⌜ n ≤ 128 ⌝ }
-    requires { ⌜ Strict n (holds (now t)) ⌝ }
-    requires { ⌜ Inside n (now t) ⌝ }
-    ensures { λ r. ⌜ ((u v : ℕ) → holds r u v ≡ covers n (holds (now (t .entry))) u v) ⌝ }
+    requires { ⌜ Strict n (holds t) ⌝ }
+    requires { ⌜ Inside n t ⌝ }
+    ensures { λ r. ⌜ ((u v : ℕ) → holds r u v ≡ covers n (holds t) u v) ⌝ }
 {
     let none = [0u64; 2];
     let mut r = [none; 128];
-    let dom = domain(t, n);
+    let dom = domain(&t, n);
     for u in 0..n {
-        let far = beyond(t, dom, u, n);
+        let far = beyond(&t, dom, u, n);
         r[u] = set::difference(t[u], far);
     }
     r

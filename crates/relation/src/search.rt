@@ -112,15 +112,15 @@ fn first_with_a(after: &[[u64; 2]; 128], free: &[[u64; 2]; 128], n: usize, a: us
 }
 
 // The first N of the order that one table holds and the other holds transposed.
-pub fn first_n(after: &[[u64; 2]; 128], under: &[[u64; 2]; 128], n: usize) -> FoundFour
+pub fn first_n(after: [[u64; 2]; 128], under: &[[u64; 2]; 128], n: usize) -> FoundFour
     requires { ⌜ n ≤ 128 ⌝ }
-    requires { ⌜ Inside n (now after) ⌝ }
-    requires { ⌜ ((u v : ℕ) → holds (now under) u v ≡ holds (now after) v u) ⌝ }
-    ensures { λ r. ⌜ foundFour r ≡ firstN n (holds (now (after .entry))) ⌝ }
+    requires { ⌜ Inside n after ⌝ }
+    requires { ⌜ ((u v : ℕ) → holds (now under) u v ≡ holds after v u) ⌝ }
+    ensures { λ r. ⌜ foundFour r ≡ firstN n (holds after) ⌝ }
 {
-    let free = incomparabilities(after, under, n);
+    let free = incomparabilities(&after, under, n);
     for a in 0..n {
-        let found = first_with_a(after, &free, n, a);
+        let found = first_with_a(&after, &free, n, a);
         let FoundFour::Nothing = found else {
             return found;
         };

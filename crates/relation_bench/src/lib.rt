@@ -36,9 +36,9 @@ pub fn closed(arcs: &[u16], n: usize) -> [[u64; 2]; 128]
 }
 
 // Whether no job is before itself.
-pub fn acyclic(after: &[[u64; 2]; 128], n: usize) -> bool
+pub fn acyclic(after: [[u64; 2]; 128], n: usize) -> bool
     requires { ⌜ n ≤ 128 ⌝ }
-    ensures { λ r. ⌜ r ≡ acyclic n (holds (now (after .entry))) ⌝ }
+    ensures { λ r. ⌜ r ≡ acyclic n (holds after) ⌝ }
 {
     let found = order::first_on_cycle(after, n);
     match found {
@@ -59,10 +59,10 @@ pub extern "C" fn bench_reduce(arcs: &[u16], n: u16, area: &mut [u8]) -> usize
     }
     let jobs = n as usize;
     let after = closed(arcs, jobs);
-    if !acyclic(&after, jobs) {
+    if !acyclic(after, jobs) {
         return 0;
     }
-    let covers = reduction::reduced(&after, jobs);
+    let covers = reduction::reduced(after, jobs);
     let count = reduction::pair_count(&covers, jobs);
     if area.len() / 2 < count {
         return 0;
@@ -72,12 +72,12 @@ pub extern "C" fn bench_reduce(arcs: &[u16], n: u16, area: &mut [u8]) -> usize
 }
 
 // The first N of a closure: its jobs, a byte each from the lowest, or 2^32 where there is none.
-fn searched(after: &[[u64; 2]; 128], n: usize) -> u64
+fn searched(after: [[u64; 2]; 128], n: usize) -> u64
     requires { ⌜ n ≤ 128 ⌝ }
-    requires { ⌜ Inside n (now after) ⌝ }
-    ensures { λ r. ⌜ r ≡ packed (firstN n (holds (now (after .entry)))) ⌝ }
+    requires { ⌜ Inside n after ⌝ }
+    ensures { λ r. ⌜ r ≡ packed (firstN n (holds after)) ⌝ }
 {
-    let under = order::transposed(*after, n);
+    let under = order::transposed(after, n);
     let found = search::first_n(after, &under, n);
     match found {
         FoundFour::At(a, b, c, d) => {
@@ -96,5 +96,5 @@ pub extern "C" fn bench_first_n(arcs: &[u16], n: u16) -> u64
         return 0x1_0000_0000;
     }
     let after = closed(arcs, n as usize);
-    searched(&after, n as usize)
+    searched(after, n as usize)
 }

@@ -1,6 +1,6 @@
 -- How the writing of a tree begins, and how it fails.
 use Prim.Native.Nat.{ℕ, zero, suc, _+_, _-_, _≤_, _<_}
-use mathlib.Core.Path.{_≡_, refl, sym, ap, ap₂, subst, _∙_}
+use mathlib.Core.Path.{_≡_, refl, sym, ap, ap₂, subst, fun-ext, _∙_}
 use mathlib.Core.List.{List, [], _∷_, _++_, map, append-nil, List·Memᴰ, List·Memᴰ·head, List·Memᴰ·tail}
 use mathlib.Core.Bool.{Bool, true, false, _&&_, _||_, not}
 use mathlib.Core.Logic.{_⊎_, inl, inr, ⊎-elim}
@@ -207,15 +207,23 @@ pub record Tables (n : ℕ) (r under tied free : Rel) : Type 0 where
   pub tied-is : Alike n r tied false
   pub free-is : Alike n r free true
 
+-- The loop reads the order in the table that holds it turned round alone.
+abbrev pub transpose : Rel → Rel
+transpose r u v = r v u
+
+pub transpose-is : (r under : Rel) → ((u v : ℕ) → under u v ≡ r v u) → transpose under ≡ r
+transpose-is r under turned = fun-ext λ u. fun-ext λ v. turned v u
+
 pub tables : (n : ℕ) (r under tied free : Rel) → n ≤ 128 → Strict n r → ((u v : ℕ) → r u v ≡ true → (u < n) × (v < n))
     → ((u v : ℕ) → under u v ≡ r v u) → ((u v : ℕ) → u < n → tied u v ≡ (r u v || under u v))
-    → ((u v : ℕ) → u < n → free u v ≡ (ltb v n && (not (eqb u v) && not (r u v || under u v)))) → Tables n r under tied free
+    → ((u v : ℕ) → u < n → free u v ≡ (ltb v n && (not (eqb u v) && not (r u v || under u v)))) → Tables n (transpose under) under tied free
 tables n r under tied free few strict inside turned t f =
-    record {
+    subst (λ q. Tables n q under tied free) (sym (transpose-is r under turned))
+    (record {
       few = few;
       strict = strict;
       turned = turned;
       partial = under-partial n r under strict inside turned;
       tied-is = tied-alike n r tied under turned t;
       free-is = free-alike n r free under turned f;
-    }
+    })

@@ -286,16 +286,16 @@ fn shaped(p: Progress, fields: [u16; 256], forward: [u8; 128], reverse: [u8; 128
 
 // A set of two jobs or more that cannot be taken apart, as its kind asks, has an N. All jobs become a series group if they come
 // apart so.
-pub fn shape_of(after: &[[u64; 2]; 128], under: &[[u64; 2]; 128], n: usize) -> Shape
+pub fn shape_of(after: [[u64; 2]; 128], under: &[[u64; 2]; 128], n: usize) -> Shape
     requires { ⌜ (0 < n) × (n ≤ 128) ⌝ }
-    requires { ⌜ Strict n (holds (now after)) ⌝ }
-    requires { ⌜ Inside n (now after) ⌝ }
-    requires { ⌜ ((u v : ℕ) → holds (now under) u v ≡ holds (now after) v u) ⌝ }
-    ensures { λ r. ⌜ r ≡ shape (treeOf n (holds (now (after .entry)))) ⌝ }
+    requires { ⌜ Strict n (holds after) ⌝ }
+    requires { ⌜ Inside n after ⌝ }
+    requires { ⌜ ((u v : ℕ) → holds (now under) u v ≡ holds after v u) ⌝ }
+    ensures { λ r. ⌜ r ≡ shape (treeOf n (holds after)) ⌝ }
 {
     let mut tied = [[0; 2]; 128];
     let mut free = [[0; 2]; 128];
-    compare(after, under, n, &mut tied, &mut free);
+    compare(&after, under, n, &mut tied, &mut free);
     let mut parts = [[0; 2]; 128];
     let mut stack = [[0; 2]; 128];
     let mut numbers = [0; 128];

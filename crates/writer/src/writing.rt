@@ -32,12 +32,12 @@ fn unwritten() -> Written
 }
 
 // after holds the order of n jobs, under the same turned round. Where no tree means the order there is no record.
-pub fn write_record(after: &[[u64; 2]; 128], under: &[[u64; 2]; 128], n: usize) -> Written
+pub fn write_record(after: [[u64; 2]; 128], under: &[[u64; 2]; 128], n: usize) -> Written
     requires { ⌜ (0 < n) × (n ≤ 128) ⌝ }
-    requires { ⌜ Strict n (holds (now after)) ⌝ }
-    requires { ⌜ Inside n (now after) ⌝ }
-    requires { ⌜ ((u v : ℕ) → holds (now under) u v ≡ holds (now after) v u) ⌝ }
-    ensures { λ r. ⌜ r ≡ written n (treeOf n (holds (now (after .entry)))) ⌝ }
+    requires { ⌜ Strict n (holds after) ⌝ }
+    requires { ⌜ Inside n after ⌝ }
+    requires { ⌜ ((u v : ℕ) → holds (now under) u v ≡ holds after v u) ⌝ }
+    ensures { λ r. ⌜ r ≡ written n (treeOf n (holds after)) ⌝ }
 {
     let shape = tree::shape_of(after, under, n);
     if !shape.ok {

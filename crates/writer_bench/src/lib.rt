@@ -11,12 +11,12 @@ ghost use Rattle.writer.specs.Written.{written};
 ghost use Rattle.writer_bench.specs.Rounds.{bytesWritten};
 
 // The record of an order, written so many times over: its bytes in all.
-fn repeated(after: &[[u64; 2]; 128], under: &[[u64; 2]; 128], n: usize, rounds: usize) -> usize
+fn repeated(after: [[u64; 2]; 128], under: &[[u64; 2]; 128], n: usize, rounds: usize) -> usize
     requires { ⌜ (0 < n) × (n ≤ 128) × (rounds ≤ 1000000) ⌝ }
-    requires { ⌜ Strict n (holds (now after)) ⌝ }
-    requires { ⌜ Inside n (now after) ⌝ }
-    requires { ⌜ ((u v : ℕ) → holds (now under) u v ≡ holds (now after) v u) ⌝ }
-    ensures { λ r. ⌜ r ≡ rounds * (written n (treeOf n (holds (now (after .entry)))) .count) ⌝ }
+    requires { ⌜ Strict n (holds after) ⌝ }
+    requires { ⌜ Inside n after ⌝ }
+    requires { ⌜ ((u v : ℕ) → holds (now under) u v ≡ holds after v u) ⌝ }
+    ensures { λ r. ⌜ r ≡ rounds * (written n (treeOf n (holds after)) .count) ⌝ }
 {
     let mut sum = 0;
     let mut i = 0;
@@ -44,9 +44,9 @@ pub extern "C" fn bench_write(arcs: &[u16], n: u16, rounds: usize) -> usize
     }
     let jobs = n as usize;
     let after = relation_bench::closed(arcs, jobs);
-    if !relation_bench::acyclic(&after, jobs) {
+    if !relation_bench::acyclic(after, jobs) {
         return 0;
     }
     let under = order::transposed(after, jobs);
-    repeated(&after, &under, jobs, rounds)
+    repeated(after, &under, jobs, rounds)
 }

@@ -8,16 +8,10 @@ use Rattle.analysis.specs.Outcome.{pairOutcome}
 use Rattle.analysis.proofs.Steps.{pairs-odd, pairs-even, pairs-length}
 use Rattle.analysis.proofs.analyse_pairs.Statement.{statement}
 use Rattle.analysis.proofs.analyse_pairs.Tie as tie
-use Rattle.analysis.proofs.analyse_pairs.Reads as reads
-use Rattle.analysis.proofs.analyse_pairs.Lts as lts
-use Rattle.analysis.proofs.limits.of_count.Reads as of-count-reads
-use Rattle.analysis.proofs.refused.Reads as refused-reads
 
--- src/lib.rt:69:9
 refused-requires : tie.Need-refused-requires
 refused-requires c κs = search needs
 
--- src/lib.rt:69:9
 returns : tie.Need-returns
 returns c =
     let s = c .before .before .before .before .before in
@@ -28,19 +22,15 @@ returns c =
     subst (λ a. Gives (pairOutcome (rooms b ar) n list) b ar a b ar) (sym (c .refused .ensures))
     (gives-refusal _ (pairOutcome (rooms b ar) n list) b ar 2 0 0 0 0 (pairs-odd (rooms b ar) n list (c .before .if1 .taken)) refl)
 
--- src/lib.rt:71:5
 of-count-requires : tie.Need-of-count-requires
 of-count-requires c κs = search needs
 
--- src/lib.rt:64:1
 same-length : tie.Need-same-length
 same-length c = search needs
 
--- src/lib.rt:64:1
 same-length-2 : tie.Need-same-length-2
 same-length-2 c = search needs
 
--- src/lib.rt:64:1
 returns-2 : tie.Need-returns-2
 returns-2 c =
     let test = c .before .before .before .before .before .before .before .before .before in

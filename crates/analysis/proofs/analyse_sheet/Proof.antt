@@ -12,18 +12,10 @@ use Rattle.analysis.proofs.Steps.{sheet-long, sheet-broken, sheet-read,
 use Rattle.analysis.proofs.SheetArcs.{arcs-read, broken-read, list-length}
 use Rattle.analysis.proofs.analyse_sheet.Statement.{statement}
 use Rattle.analysis.proofs.analyse_sheet.Tie as tie
-use Rattle.analysis.proofs.analyse_sheet.Reads as reads
-use Rattle.analysis.proofs.analyse_sheet.Lts as lts
-use Rattle.analysis.proofs.limits.of_count.Reads as of-count-reads
-use Rattle.analysis.proofs.looked_at.Reads as looked-at-reads
-use Rattle.analysis.proofs.refused.Reads as refused-reads
-use Rattle.sheet.proofs.read_sheet.Reads as read-sheet-reads
 
--- src/lib.rt:61:9
 refused-requires : tie.Need-refused-requires
 refused-requires c κs = search needs
 
--- src/lib.rt:61:9
 returns : tie.Need-returns
 returns c =
     let s = c .before .before .before .before .before in
@@ -33,27 +25,21 @@ returns c =
     subst (λ a. Gives (sheetOutcome (rooms b ar) text) b ar a b ar) (sym (c .refused .ensures))
     (gives-refusal _ (sheetOutcome (rooms b ar) text) b ar 1 0 0 0 0 (sheet-long (rooms b ar) text (c .before .if1 .taken)) refl)
 
--- src/lib.rt:64:41
 slice-aggregate-read-sheet : tie.Need-slice-aggregate-read-sheet
 slice-aggregate-read-sheet c = search needs
 
--- src/lib.rt:64:9
 read-sheet-requires : tie.Need-read-sheet-requires
 read-sheet-requires c κs = search needs
 
--- src/lib.rt:66:26
 enum-known-read : tie.Need-enum-known-read
 enum-known-read c = search needs
 
--- src/lib.rt:67:48
 looked-at-requires : tie.Need-looked-at-requires
 looked-at-requires c κs = search needs
 
--- src/lib.rt:67:40
 array-share-prefix-list : tie.Need-array-share-prefix-list
 array-share-prefix-list c = search needs
 
--- src/lib.rt:67:40
 slice-aggregate-of-count : tie.Need-slice-aggregate-of-count
 slice-aggregate-of-count c =
     let test = c .before .before .before .before .before .before .before .before .before in
@@ -62,27 +48,21 @@ slice-aggregate-of-count c =
     let long = list-length (scan (s .args .sheet .now)) _ (a .last .1 .0) (a .result) (a .ensures) in
     sym (length-take-le (c .before .looked-at .result) (a .last .1 .0) (omega (arith, long, c .before .looked-at .ensures .0)))
 
--- src/lib.rt:67:13
 of-count-requires : tie.Need-of-count-requires
 of-count-requires c κs = search needs
 
--- src/lib.rt:69:27
 enum-known-read-2 : tie.Need-enum-known-read-2
 enum-known-read-2 c = search needs
 
--- src/lib.rt:69:37
 refused-requires-2 : tie.Need-refused-requires-2
 refused-requires-2 c κs = search needs
 
--- src/lib.rt:56:1
 same-length : tie.Need-same-length
 same-length c = search needs
 
--- src/lib.rt:56:1
 same-length-2 : tie.Need-same-length-2
 same-length-2 c = search needs
 
--- src/lib.rt:56:1
 returns-2 : tie.Need-returns-2
 returns-2 c =
     let test = c .before .before .before .before .before .before .before .before .before in
@@ -97,7 +77,6 @@ returns-2 c =
     (λ few. ap (λ k. pairs (take k (a .last .1 .0))) (c .before .before .before .before .before .before .before .before .looked-at .ensures .1 few)
     ∙ ap pairs (x .front few) ∙ pairs-bytes (x .arcs)))
 
--- src/lib.rt:56:1
 returns-3 : tie.Need-returns-3
 returns-3 c =
     let test = c .before .before .before .before .before .before .before .before .before in

@@ -27,11 +27,11 @@ closed-requires : tie.Need-closed-requires
 closed-requires c κs = fits-within _ _ (fit c)
 
 searched-requires : tie.Need-searched-requires
-searched-requires c κs = (fits-within _ _ (fit (c .before .before)) .0, c .before .closed .ensures .1)
+searched-requires c κs = (fits-within _ _ (fit (c .before)) .0, c .closed .ensures .1)
 
 returns-2 : tie.Need-returns-2
 returns-2 c =
-    let w = c .before .before in
+    let w = c .before in
     let a = w .before .before .before .before .args in
     c .searched .ensures ∙ ap (λ r. packed (firstN (a .n) r)) (w .closed .ensures .0) ∙ packed-fit (a .n) (pairs (a .arcs .now)) (fit (w .before))
 

@@ -42,10 +42,10 @@ module _ (c : tie.Else1) where
 -- their closure is looked through for a cycle
 module _ (c : tie.After-acyclic) where
   abbrev was : tie.Else1
-  was = c .before .before .before
+  was = c .before .before
 
   abbrev closure : tie.After-closed
-  closure = c .before .before
+  closure = c .before
 
   tested : c .acyclic .result ≡ acyclic (n was) (before (n was) (given was))
   tested = c .acyclic .ensures ∙ ap (acyclic (n was)) (closure .closed .ensures .0)
@@ -53,7 +53,7 @@ module _ (c : tie.After-acyclic) where
 -- there is none, and the order is reduced
 module _ (c : tie.After-reduced) where
   abbrev look : tie.After-acyclic
-  look = c .before .before .before
+  look = c .before .before
 
   abbrev fitting : tie.Else1
   fitting = was look
@@ -62,7 +62,7 @@ module _ (c : tie.After-reduced) where
   covering = c .reduced .result
 
   order : acyclic (n fitting) (before (n fitting) (given fitting)) ≡ true
-  order = sym (tested look) ∙ not-false _ (c .before .before .if2 .left)
+  order = sym (tested look) ∙ not-false _ (c .before .if2 .left)
 
   inside : Inside (n fitting) covering
   inside = reduced-inside (n fitting) (closure look .closed .result) covering (closure look .closed .ensures .1) (c .reduced .ensures)
@@ -84,7 +84,7 @@ closed-requires : tie.Need-closed-requires
 closed-requires c κs = fits-within (n c) (given c) (fit c)
 
 acyclic-requires : tie.Need-acyclic-requires
-acyclic-requires c κs = small (c .before .before)
+acyclic-requires c κs = small (c .before)
 
 returns-2 : tie.Need-returns-2
 returns-2 c =
@@ -93,10 +93,10 @@ returns-2 c =
 
 reduced-requires : tie.Need-reduced-requires
 reduced-requires c κs =
-    let look = c .before .before in
+    let look = c .before in
     let w = was look in
     let e = closure look .closed .ensures in
-    let o = sym (tested look) ∙ not-false _ (c .before .if2 .left) in
+    let o = sym (tested look) ∙ not-false _ (c .if2 .left) in
     (small w, (rw (e .0) (acyclic-strict (n w) (given w) o), e .1))
 
 pair-count-requires : tie.Need-pair-count-requires

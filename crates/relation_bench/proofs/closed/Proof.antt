@@ -6,17 +6,14 @@ use Rattle.relation.proofs.Warshall.{closure-inside}
 use Rattle.relation_bench.proofs.closed.Statement.{statement}
 use Rattle.relation_bench.proofs.closed.Tie as tie
 
--- src/lib.rt:22:20
 table-of-requires : tie.Need-table-of-requires
 table-of-requires c κs = λ a m. let s = c .before in let w = s .pre .1 a m in omega (arith, w, s .pre .0)
 
--- src/lib.rt:22:5
 closure-requires : tie.Need-closure-requires
 closure-requires c κs =
     let s = c .before .before in
     (s .pre .0, table-inside (s .args .n) (pairs (s .args .arcs .now)) (c .table-of .result) (c .table-of .ensures) (s .pre .1))
 
--- src/lib.rt:16:1
 returns : tie.Need-returns
 returns c =
     let t = c .before in

@@ -43,10 +43,10 @@ module _ (c : tie.Else3) where
 -- their closure is looked through for a cycle
 module _ (c : tie.After-acyclic) where
   abbrev was : tie.Else3
-  was = c .before .before .before
+  was = c .before .before
 
   abbrev closure : tie.After-closed
-  closure = c .before .before
+  closure = c .before
 
   tested : c .acyclic .result ≡ acyclic (n was) (before (n was) (given was))
   tested = c .acyclic .ensures ∙ ap (acyclic (n was)) (closure .closed .ensures .0)
@@ -78,7 +78,7 @@ closed-requires : tie.Need-closed-requires
 closed-requires c κs = fits-within (n c) (given c) (fit c)
 
 acyclic-requires : tie.Need-acyclic-requires
-acyclic-requires c κs = small (c .before .before)
+acyclic-requires c κs = small (c .before)
 
 returns-4 : tie.Need-returns-4
 returns-4 c =
@@ -90,20 +90,20 @@ transposed-requires c κs = (small (was (c .before)), closure (c .before) .close
 
 repeated-requires : tie.Need-repeated-requires
 repeated-requires c κs =
-    let look = c .before .before .before .before in
+    let look = c .before .before .before in
     let w = was look in
     let e = closure look .closed .ensures in (
       (omega (arith, one w), small w, few w),
-      (rw (e .0) (acyclic-strict (n w) (given w) (order (c .before .before .before))), (e .1, c .before .before .transposed .ensures)),
+      (rw (e .0) (acyclic-strict (n w) (given w) (order (c .before .before))), (e .1, c .before .transposed .ensures)),
     )
 
 returns-5 : tie.Need-returns-5
 returns-5 c =
-    let look = c .before .before .before .before .before in
+    let look = c .before .before .before .before in
     let w = was look in
     c .repeated .ensures
     ∙ ap (λ r. start w .args .rounds * (written (n w) (treeOf (n w) r) .count)) (closure look .closed .ensures .0)
-    ∙ all-written (start w .args .rounds) (n w) (given w) (one w) (few w) (fit w) (order (c .before .before .before .before))
+    ∙ all-written (start w .args .rounds) (n w) (given w) (one w) (few w) (fit w) (order (c .before .before .before))
 
 pub bench-write-spec : {M : Type 1} → statement M
 bench-write-spec =

@@ -18,10 +18,10 @@ abbrev μ-loop : tie.MeasureT-loop
 μ-loop after under n rounds sum₀ i₀ sum i = rounds - i
 
 abbrev bytes : tie.Start Inv-loop μ-loop → ℕ
-bytes s = written (s .args .n) (treeOf (s .args .n) (holds (s .args .after .now))) .count
+bytes s = written (s .args .n) (treeOf (s .args .n) (holds (s .args .after))) .count
 
 few : (s : tie.Start Inv-loop μ-loop) → bytes s ≤ 272
-few s = record-few (s .args .n) (s .pre .0 .1) (holds (s .args .after .now)) (s .pre .1 .0)
+few s = record-few (s .args .n) (s .pre .0 .1) (holds (s .args .after)) (s .pre .1 .0)
 
 count : (c : tie.After-write-record Inv-loop μ-loop) → c .write-record .result .count ≡ bytes (c .before .before .before)
 count c = ap (λ (w : Written). w .count) (c .write-record .ensures)

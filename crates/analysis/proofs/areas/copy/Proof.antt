@@ -3,8 +3,6 @@ use native.Mathlib.Omega.{arith}
 use Rattle.analysis.proofs.Copying.{Copied, copy-start, copy-next, copy-end}
 use Rattle.analysis.proofs.areas.copy.Statement.{statement}
 use Rattle.analysis.proofs.areas.copy.Tie as tie
-use Rattle.analysis.proofs.areas.copy.Reads as reads
-use Rattle.analysis.proofs.areas.copy.Lts as lts
 
 abbrev Inv-loop : tie.InvT-loop
 Inv-loop bytes count area₀ i₀ area i = Copied bytes area₀ count i area
@@ -12,38 +10,30 @@ Inv-loop bytes count area₀ i₀ area i = Copied bytes area₀ count i area
 abbrev μ-loop : tie.MeasureT-loop
 μ-loop bytes count area₀ i₀ area i = count - i
 
--- src/areas.rt:12:5
 loop-holds : tie.Need-loop-holds Inv-loop μ-loop
 loop-holds c = copy-start _ _ _
 
--- src/areas.rt:13:19
 element-copy-out-area : tie.Need-element-copy-out-area Inv-loop μ-loop
 element-copy-out-area c = omega arith
 
--- src/areas.rt:13:9
 slice-write-area : tie.Need-slice-write-area Inv-loop μ-loop
 slice-write-area c = omega arith
 
--- src/areas.rt:12:9
 add-i : tie.Need-add-i Inv-loop μ-loop
 add-i c = omega arith
 
--- src/areas.rt:12:5
 loop-less : tie.Need-loop-less Inv-loop μ-loop
 loop-less c = omega arith
 
--- src/areas.rt:12:5
 loop-again : tie.Need-loop-again Inv-loop μ-loop
 loop-again c =
     let l = c .before .before .loop in
     let s = c .before .before .before in
     copy-next _ _ _ _ _ (l .inv) (c .before .loop-test .taken) (omega (arith, s .pre)) (s .pre .2)
 
--- src/areas.rt:8:1
 same-length : tie.Need-same-length Inv-loop μ-loop
 same-length c = c .before .loop .inv .size
 
--- src/areas.rt:8:1
 returns : tie.Need-returns Inv-loop μ-loop
 returns c =
     let l = c .before .loop in

@@ -8,16 +8,10 @@ use Rattle.analysis.specs.Outcome.{listed, arcOutcome}
 use Rattle.analysis.proofs.Steps.{some-jobs, count-none, count-above, count-many, count-listed}
 use Rattle.analysis.proofs.limits.of_count.Statement.{statement}
 use Rattle.analysis.proofs.limits.of_count.Tie as tie
-use Rattle.analysis.proofs.limits.of_count.Reads as reads
-use Rattle.analysis.proofs.limits.of_count.Lts as lts
-use Rattle.analysis.proofs.limits.of_list.Reads as of-list-reads
-use Rattle.analysis.proofs.refused.Reads as refused-reads
 
--- src/limits.rt:51:9
 refused-requires : tie.Need-refused-requires
 refused-requires c κs = search needs
 
--- src/limits.rt:51:9
 returns : tie.Need-returns
 returns c =
     let s = c .before .before .before .before .before in
@@ -27,11 +21,9 @@ returns c =
     subst (λ a. Gives (arcOutcome (rooms b ar) (s .args .n) arcs) b ar a b ar) (sym (c .refused .ensures))
     (gives-refusal _ (arcOutcome (rooms b ar) (s .args .n) arcs) b ar 3 0 0 0 0 (count-none (rooms b ar) (s .args .n) arcs (c .before .if1 .taken)) refl)
 
--- src/limits.rt:54:9
 refused-requires-2 : tie.Need-refused-requires-2
 refused-requires-2 c κs = search needs
 
--- src/limits.rt:54:9
 returns-2 : tie.Need-returns-2
 returns-2 c =
     let s = c .before .before .before .before .before .before in
@@ -41,11 +33,9 @@ returns-2 c =
     subst (λ a. Gives (arcOutcome (rooms b ar) (s .args .n) arcs) b ar a b ar) (sym (c .refused2 .ensures))
     (gives-refusal _ (arcOutcome (rooms b ar) (s .args .n) arcs) b ar 3 0 0 0 0 (count-above (rooms b ar) (s .args .n) arcs (c .before .if2 .taken)) refl)
 
--- src/limits.rt:57:9
 refused-requires-3 : tie.Need-refused-requires-3
 refused-requires-3 c κs = search needs
 
--- src/limits.rt:57:9
 returns-3 : tie.Need-returns-3
 returns-3 c =
     let s = c .before .before .before .before .before .before .before in
@@ -57,19 +47,15 @@ returns-3 c =
     (count-many (rooms b ar) (s .args .n) arcs
     (some-jobs (c .before .before .before .if1 .left)) (c .before .before .if2 .left) (omega (arith, size, c .before .if3 .taken))) refl)
 
--- src/limits.rt:59:5
 of-list-requires : tie.Need-of-list-requires
 of-list-requires c κs = search needs
 
--- src/limits.rt:45:1
 same-length : tie.Need-same-length
 same-length c = search needs
 
--- src/limits.rt:45:1
 same-length-2 : tie.Need-same-length-2
 same-length-2 c = search needs
 
--- src/limits.rt:45:1
 returns-4 : tie.Need-returns-4
 returns-4 c =
     let test = c .before .before .before .before .before .before .before .before .before in

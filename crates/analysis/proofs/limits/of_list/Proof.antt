@@ -8,35 +8,24 @@ use Rattle.analysis.specs.Outcome.{listed}
 use Rattle.analysis.proofs.Steps.{listed-5}
 use Rattle.analysis.proofs.limits.of_list.Statement.{statement}
 use Rattle.analysis.proofs.limits.of_list.Tie as tie
-use Rattle.analysis.proofs.limits.of_list.Reads as reads
-use Rattle.analysis.proofs.limits.of_list.Lts as lts
-use Rattle.analysis.proofs.limits.of_named.Reads as of-named-reads
-use Rattle.analysis.proofs.refused.Reads as refused-reads
-use Rattle.relation.proofs.arcs.first_outside.Reads as first-outside-reads
 
--- src/limits.rt:37:9
 first-outside-requires : tie.Need-first-outside-requires
 first-outside-requires c κs = search needs
 
--- src/limits.rt:39:19
 enum-known-far : tie.Need-enum-known-far
 enum-known-far c = search needs
 
--- src/limits.rt:39:25
 refused-requires : tie.Need-refused-requires
 refused-requires c κs = search needs
 
--- src/limits.rt:40:45
 enum-told : tie.Need-enum-told
 enum-told c = search needs
 
--- src/limits.rt:40:27
 of-named-requires : tie.Need-of-named-requires
 of-named-requires c κs =
     let s = c .before .before .before .before .before .before .before .before in
     (s .pre, sym (c .before .before .before .before .first-outside .ensures) ∙ ap found (c .before .before .enum-told .given .1))
 
--- src/limits.rt:32:1
 returns : tie.Need-returns
 returns c =
     let s = c .before .before .before .before .before .before .before .before in
@@ -48,15 +37,12 @@ returns c =
     subst (λ a. Gives (listed (rooms b ar) n arcs) b ar a b ar) (sym (c .refused .ensures))
     (gives-refusal _ (listed (rooms b ar) n arcs) b ar 5 _ 0 0 0 (listed-5 (rooms b ar) n arcs _ here) refl)
 
--- src/limits.rt:32:1
 same-length : tie.Need-same-length
 same-length c = search needs
 
--- src/limits.rt:32:1
 same-length-2 : tie.Need-same-length-2
 same-length-2 c = search needs
 
--- src/limits.rt:32:1
 returns-2 : tie.Need-returns-2
 returns-2 c = search needs
 

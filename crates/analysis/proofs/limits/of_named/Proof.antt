@@ -9,35 +9,24 @@ use Rattle.analysis.specs.Outcome.{listed}
 use Rattle.analysis.proofs.Steps.{listed-6, listed-order}
 use Rattle.analysis.proofs.limits.of_named.Statement.{statement}
 use Rattle.analysis.proofs.limits.of_named.Tie as tie
-use Rattle.analysis.proofs.limits.of_named.Reads as reads
-use Rattle.analysis.proofs.limits.of_named.Lts as lts
-use Rattle.analysis.proofs.order.of_arcs.Reads as of-arcs-reads
-use Rattle.analysis.proofs.refused.Reads as refused-reads
-use Rattle.relation.proofs.arcs.first_loop.Reads as first-loop-reads
 
--- src/limits.rt:25:9
 first-loop-requires : tie.Need-first-loop-requires
 first-loop-requires c κs = search needs
 
--- src/limits.rt:27:19
 enum-known-own : tie.Need-enum-known-own
 enum-known-own c = search needs
 
--- src/limits.rt:27:25
 refused-requires : tie.Need-refused-requires
 refused-requires c κs = search needs
 
--- src/limits.rt:28:48
 enum-told : tie.Need-enum-told
 enum-told c = search needs
 
--- src/limits.rt:28:27
 of-arcs-requires : tie.Need-of-arcs-requires
 of-arcs-requires c κs =
     let s = c .before .before .before .before .before .before .before .before in
     (s .pre .0, outside-none (s .args .n) (pairs (s .args .list .now)) (s .pre .1))
 
--- src/limits.rt:19:1
 returns : tie.Need-returns
 returns c =
     let s = c .before .before .before .before .before .before .before .before in
@@ -49,15 +38,12 @@ returns c =
     subst (λ a. Gives (listed (rooms b ar) n arcs) b ar a b ar) (sym (c .refused .ensures))
     (gives-refusal _ (listed (rooms b ar) n arcs) b ar 6 _ 0 0 0 (listed-6 (rooms b ar) n arcs _ (s .pre .1) here) refl)
 
--- src/limits.rt:19:1
 same-length : tie.Need-same-length
 same-length c = search needs
 
--- src/limits.rt:19:1
 same-length-2 : tie.Need-same-length-2
 same-length-2 c = search needs
 
--- src/limits.rt:19:1
 returns-2 : tie.Need-returns-2
 returns-2 c =
     let test = c .before .before .before .before .before .before .before .before .before in

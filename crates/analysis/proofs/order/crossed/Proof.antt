@@ -4,39 +4,28 @@ use Rattle.relation.specs.Arcs.{foundFour}
 use Rattle.analysis.specs.Result.{crossedBy}
 use Rattle.analysis.proofs.order.crossed.Statement.{statement}
 use Rattle.analysis.proofs.order.crossed.Tie as tie
-use Rattle.analysis.proofs.order.crossed.Reads as reads
-use Rattle.analysis.proofs.order.crossed.Lts as lts
-use Rattle.analysis.proofs.refused.Reads as refused-reads
-use Rattle.relation.proofs.search.first_n.Reads as first-n-reads
 
--- src/order.rt:31:9
 first-n-requires : tie.Need-first-n-requires
 first-n-requires c κs = search needs
 
--- src/order.rt:33:23
 enum-known-four : tie.Need-enum-known-four
 enum-known-four c = search needs
 
--- src/order.rt:33:38
 refused-requires : tie.Need-refused-requires
 refused-requires c κs = search needs
 
--- src/order.rt:34:39
 enum-told : tie.Need-enum-told
 enum-told c = search needs
 
--- src/order.rt:34:31
 refused-requires-2 : tie.Need-refused-requires-2
 refused-requires-2 c κs = search needs
 
--- src/order.rt:25:1
 returns : tie.Need-returns
 returns c =
     c .refused .ensures
     ∙ ap (λ f. crossedBy (foundFour f)) (sym (c .before .before .four .given .1))
     ∙ ap crossedBy (c .before .before .before .before .first-n .ensures)
 
--- src/order.rt:25:1
 returns-2 : tie.Need-returns-2
 returns-2 c =
     c .refused2 .ensures

@@ -1,8 +1,12 @@
+-- `order::of_arcs` meets its contract: the closure's first job before itself decides between 7 and the order taken apart.
 use borrow.Author.Needs.{needs}
-use mathlib.Core.Path.{sym, ap, subst, _∙_}
+use Prim.Native.Nat.{ℕ}
+use mathlib.Core.Path.{_≡_, sym, ap, subst, _∙_}
+use mathlib.Core.List.{List}
+use mathlib.Core.Option.{none}
 use native.Mathlib.Omega.{arith}
-use Rattle.poset.specs.Order.{before, firstOnCycle}
-use Rattle.relation.specs.Table.{holds}
+use Rattle.poset.specs.Order.{Arc, before, firstOnCycle}
+use Rattle.relation.specs.Table.{holds, Inside}
 use Rattle.relation.specs.Arcs.{pairs, found}
 use Rattle.relation.proofs.Chain.{table-inside, closure-before, closure-strict}
 use Rattle.relation.proofs.Warshall.{closure-inside}
@@ -12,100 +16,98 @@ use Rattle.analysis.proofs.Circles.{gives-circle, no-circle}
 use Rattle.analysis.proofs.Crossing.{gives-same}
 use Rattle.analysis.proofs.order.of_arcs.Statement.{statement}
 use Rattle.analysis.proofs.order.of_arcs.Tie as tie
-use Rattle.analysis.proofs.order.of_arcs.Reads as reads
-use Rattle.analysis.proofs.order.of_arcs.Lts as lts
-use Rattle.analysis.proofs.order.take_apart.Reads as take-apart-reads
-use Rattle.analysis.proofs.refused.Reads as refused-reads
-use Rattle.relation.proofs.arcs.table_of.Reads as table-of-reads
-use Rattle.relation.proofs.order.closure.Reads as closure-reads
-use Rattle.relation.proofs.order.first_on_cycle.Reads as first-on-cycle-reads
 
--- src/order.rt:78:32
+-- the table of the arcs
+module _ (c : tie.After-table-of) where
+  abbrev start : tie.Start
+  start = c .before .before .before .before
+
+  abbrev n : ℕ
+  n = start .args .n
+
+  abbrev arcs : List Arc
+  arcs = pairs (start .args .list .now)
+
+  abbrev bytes : List ℕ
+  bytes = start .args .bytes .now
+
+  abbrev area : List ℕ
+  area = start .args .area .now
+
+  inside : Inside n (c .table-of .result)
+  inside = table-inside n arcs (c .table-of .result) (c .table-of .ensures) (start .pre .1)
+
+-- its closure
+module _ (c : tie.After-closure) where
+  abbrev t : tie.After-table-of
+  t = c .before
+
+  closes : holds (c .closure .result) ≡ before (n t) (arcs t)
+  closes = closure-before (n t) (arcs t) (t .table-of .result) (t .table-of .ensures) (c .closure .result) (c .closure .ensures)
+
+-- no job is before itself
+module _ (c : tie.After-enum-told) where
+  abbrev k : tie.After-closure
+  k = c .before .before .before
+
+  none-here : firstOnCycle (n (t k)) (holds (k .closure .result)) ≡ none
+  none-here = sym (c .before .before .first-on-cycle .ensures) ∙ ap found (c .enum-told .given .1)
+
 table-of-requires : tie.Need-table-of-requires
 table-of-requires c κs =
     let s = c .before .before .before in
     λ a m. (omega (arith, s .pre .1 a m .0, s .pre .0 .1), omega (arith, s .pre .1 a m .1, s .pre .0 .1))
 
--- src/order.rt:78:17
 closure-requires : tie.Need-closure-requires
-closure-requires c κs =
-    let s = c .before .before .before .before in
-    (s .pre .0 .1, table-inside (s .args .n) (pairs (s .args .list .now)) (c .table-of .result) (c .table-of .ensures) (s .pre .1))
+closure-requires c κs = (start c .pre .0 .1, inside c)
 
--- src/order.rt:79:9
 first-on-cycle-requires : tie.Need-first-on-cycle-requires
 first-on-cycle-requires c κs = search needs
 
--- src/order.rt:81:19
 enum-known-circle : tie.Need-enum-known-circle
 enum-known-circle c = search needs
 
--- src/order.rt:81:25
 refused-requires : tie.Need-refused-requires
 refused-requires c κs = search needs
 
--- src/order.rt:82:38
 enum-told : tie.Need-enum-told
 enum-told c = search needs
 
--- src/order.rt:82:27
 take-apart-requires : tie.Need-take-apart-requires
 take-apart-requires c κs =
-    let test = c .before .before .before .before .before .before .before .before .before in
-    let s = test .before .before .before in
-    let n = s .args .n in
-    let arcs = pairs (s .args .list .now) in
-    let t = c .before .before .before .before .before .before .before .before .table-of in
-    let k = c .before .before .before .before .before .before .before .closure in
-    let first = c .before .before .before .before .before .first-on-cycle in
-    let none-here = sym (first .ensures) ∙ ap found (c .before .before .before .enum-told .given .1) in (
-      s .pre .0,
+    let o = c .before .before in
+    let q = k o in
+    let p = t q in (
+      start p .pre .0,
       (
-        closure-strict n arcs (t .result) (t .ensures) (k .result) (k .ensures) none-here,
-        closure-inside n (t .result) (k .result) n (table-inside n arcs (t .result) (t .ensures) (s .pre .1)) (k .ensures),
+        closure-strict (n p) (arcs p) (p .table-of .result) (p .table-of .ensures) (q .closure .result) (q .closure .ensures) (none-here o),
+        closure-inside (n p) (p .table-of .result) (q .closure .result) (n p) (inside p) (q .closure .ensures),
       ),
     )
 
--- src/order.rt:72:1
 returns : tie.Need-returns
 returns c =
-    let test = c .before .before .before .before .before .before .before .before .before in
-    let s = test .before .before in
-    let n = s .args .n in
-    let arcs = pairs (s .args .list .now) in
-    let t = c .before .before .before .before .before .before .before .table-of in
-    let k = c .before .before .before .before .before .before .closure in
-    let first = c .before .before .before .before .first-on-cycle in
-    let b = s .args .bytes .now in
-    let ar = s .args .area .now in
-    let e = closure-before n arcs (t .result) (t .ensures) (k .result) (k .ensures) in
-    let here = ap (firstOnCycle n) (sym e) ∙ sym (first .ensures) ∙ ap found (c .before .before .circle .given .1) in
-    subst (λ a. Gives (ordered (rooms b ar) n (before n arcs)) b ar a b ar) (sym (c .refused .ensures))
-    (gives-circle (rooms b ar) n (before n arcs) _ b ar here)
+    let first = c .before .before .before .before in
+    let q = first .before in
+    let p = t q in
+    let here = ap (firstOnCycle (n p)) (sym (closes q)) ∙ sym (first .first-on-cycle .ensures) ∙ ap found (c .before .before .circle .given .1) in
+    subst (λ a. Gives (ordered (rooms (bytes p) (area p)) (n p) (before (n p) (arcs p))) (bytes p) (area p) a (bytes p) (area p))
+    (sym (c .refused .ensures))
+    (gives-circle (rooms (bytes p) (area p)) (n p) (before (n p) (arcs p)) _ (bytes p) (area p) here)
 
--- src/order.rt:72:1
 same-length : tie.Need-same-length
 same-length c = search needs
 
--- src/order.rt:72:1
 same-length-2 : tie.Need-same-length-2
 same-length-2 c = search needs
 
--- src/order.rt:72:1
 returns-2 : tie.Need-returns-2
 returns-2 c =
-    let test = c .before .before .before .before .before .before .before .before .before in
-    let s = test .before .before .before .before .before .before .before .before in
-    let n = s .args .n in
-    let arcs = pairs (s .args .list .now) in
-    let t = test .before .before .before .before .table-of in
-    let k = test .before .before .before .closure in
-    let first = test .before .first-on-cycle in
-    let b = s .args .bytes .now in
-    let ar = s .args .area .now in
-    let e = closure-before n arcs (t .result) (t .ensures) (k .result) (k .ensures) in
-    let none-here = sym (first .ensures) ∙ ap found (c .before .before .before .before .before .before .before .before .enum-told .given .1) in
-    gives-same (no-circle (rooms b ar) n (before n arcs) (holds (k .result)) e none-here) (c .before .before .before .before .take-apart .ensures)
+    let o = c .before .before .before .before .before .before .before in
+    let q = k o in
+    let p = t q in
+    gives-same (no-circle (rooms (bytes p) (area p)) (n p) (before (n p) (arcs p)) (holds (q .closure .result)) (closes q) (none-here o))
+    (c .before .before .before .before .take-apart .ensures)
 
 pub of-arcs-spec : {M : Type 1} → statement M
 of-arcs-spec =

@@ -1,176 +1,181 @@
+-- `order::take_apart` meets its contract: the record decides between 8 and the rest, and the rooms between 9, 10 and acceptance.
 use borrow.Author.Needs.{needs}
 use borrow.Author.Tests.{not-false}
-use mathlib.Core.Path.{sym, subst}
+use Prim.Native.Nat.{ℕ, _≤_}
+use mathlib.Core.Path.{_≡_, sym, subst}
+use mathlib.Core.List.{List}
+use mathlib.Core.Option.{some}
 use native.Mathlib.Omega.{arith}
+use Rattle.poset.specs.Order.{Rel, Strict}
+use Rattle.poset.specs.Tree.{Tree}
 use Rattle.poset.specs.Decompose.{treeOf}
 use Rattle.poset.proofs.Laws.{not-true}
-use Rattle.relation.specs.Table.{holds}
+use Rattle.relation.specs.Table.{holds, Inside}
 use Rattle.relation.proofs.Chain.{reduced-inside}
+use Rattle.writer.specs.Written.{written}
+use Rattle.writer.specs.declared.writing.Written.{Written}
 use Rattle.writer.proofs.Spelling.{written-told, bytes-few, bytes-size}
-use Rattle.analysis.specs.Outcome.{decomposed}
+use Rattle.analysis.specs.Outcome.{Outcome, decomposed}
 use Rattle.analysis.specs.Result.{rooms, Gives}
 use Rattle.analysis.proofs.Crossing.{gives-crossed}
 use Rattle.analysis.proofs.Taking.{count-few, gives-9, gives-10, gives-0}
 use Rattle.analysis.proofs.order.take_apart.Statement.{statement}
 use Rattle.analysis.proofs.order.take_apart.Tie as tie
-use Rattle.analysis.proofs.order.take_apart.Reads as reads
-use Rattle.analysis.proofs.order.take_apart.Lts as lts
-use Rattle.analysis.proofs.areas.copy.Reads as copy-reads
-use Rattle.analysis.proofs.order.crossed.Reads as crossed-reads
-use Rattle.analysis.proofs.refused.Reads as refused-reads
-use Rattle.relation.proofs.order.transposed.Reads as transposed-reads
-use Rattle.relation.proofs.reduction.pair_count.Reads as pair-count-reads
-use Rattle.relation.proofs.reduction.reduced.Reads as reduced-reads
-use Rattle.relation.proofs.reduction.write_pairs.Reads as write-pairs-reads
-use Rattle.writer.proofs.writing.write_record.Reads as write-record-reads
 
--- src/order.rt:46:17
+-- the order, the areas, and what is written of the order
+module _ (c : tie.After-struct-known) where
+  abbrev start : tie.Start
+  start = c .before .before .before .before .before .before
+
+  abbrev n : ℕ
+  n = start .args .n
+
+  abbrev order : Rel
+  order = holds (start .args .after)
+
+  abbrev bytes : List ℕ
+  bytes = start .args .bytes .now
+
+  abbrev area : List ℕ
+  area = start .args .area .now
+
+  abbrev whole : Outcome
+  whole = decomposed (rooms bytes area) n order
+
+  abbrev wrote : Written
+  wrote = c .before .write-record .result
+
+  few : n ≤ 128
+  few = start .pre .0 .1
+
+  strict : Strict n order
+  strict = start .pre .1 .0
+
+-- a tree means the order
+module _ (c : tie.Else1) where
+  abbrev was : tie.After-struct-known
+  was = c .before
+
+  told : (t : Tree) × (treeOf (n was) (order was) ≡ some t) × (wrote was ≡ written (n was) (some t))
+  told =
+      written-told (n was) (treeOf (n was) (order was)) (wrote was) (was .before .write-record .ensures) .0 (not-false (wrote was .ok) (c .if1 .left))
+
+-- its reduced orders
+module _ (c : tie.After-reduced) where
+  abbrev with-tree : tie.Else1
+  with-tree = c .before
+
+  abbrev covering : List (List ℕ)
+  covering = c .reduced .result
+
+  inside : Inside (n (was with-tree)) covering
+  inside =
+      let s = start (was with-tree) in
+      reduced-inside (s .args .n) (s .args .after) covering (s .pre .1 .1) (c .reduced .ensures)
+
 transposed-requires : tie.Need-transposed-requires
 transposed-requires c κs = search needs
 
--- src/order.rt:47:9
 write-record-requires : tie.Need-write-record-requires
 write-record-requires c κs = search needs
 
--- src/order.rt:49:9
 crossed-requires : tie.Need-crossed-requires
 crossed-requires c κs = search needs
 
--- src/order.rt:49:9
 returns : tie.Need-returns
 returns c =
-    let test = c .before .before .before .before .before .before .before .before .before in
-    let s = test .before in
-    let n = s .args .n in
-    let r = holds (s .args .after .now) in
-    let b = s .args .bytes .now in
-    let ar = s .args .area .now in
-    let w = c .before .before .before .before .write-record in
-    let bare = written-told n (treeOf n r) (w .result) (w .ensures) .1 (not-true (w .result .ok) (c .before .before .if1 .taken)) in
-    subst (λ a. Gives (decomposed (rooms b ar) n r) b ar a b ar) (sym (c .crossed .ensures)) (gives-crossed (rooms b ar) n r b ar bare)
+    let k = c .before .before .before in
+    let bare =
+    written-told (n k) (treeOf (n k) (order k)) (wrote k) (k .before .write-record .ensures) .1
+    (not-true (wrote k .ok) (c .before .before .if1 .taken)) in
+    subst (λ a. Gives (whole k) (bytes k) (area k) a (bytes k) (area k)) (sym (c .crossed .ensures))
+    (gives-crossed (rooms (bytes k) (area k)) (n k) (order k) (bytes k) (area k) bare)
 
--- src/order.rt:51:19
 reduced-requires : tie.Need-reduced-requires
 reduced-requires c κs = search needs
 
--- src/order.rt:52:9
 pair-count-requires : tie.Need-pair-count-requires
-pair-count-requires c κs =
-    let test = c .before .before .before .before .before .before .before .before .before in
-    let s = test .before in
-    (s .pre .0 .1, reduced-inside (s .args .n) (s .args .after .now) (c .before .reduced .result) (s .pre .1 .1) (c .before .reduced .ensures))
+pair-count-requires c κs = let r = c .before in (few (was (with-tree r)), inside r)
 
--- src/order.rt:54:9
 refused-requires : tie.Need-refused-requires
 refused-requires c κs = search needs
 
--- src/order.rt:54:9
 returns-2 : tie.Need-returns-2
 returns-2 c =
-    let test = c .before .before .before .before .before .before .before .before .before in
-    let s = test .before .before .before .before .before in
-    let n = s .args .n in
-    let r = holds (s .args .after .now) in
-    let b = s .args .bytes .now in
-    let ar = s .args .area .now in
-    let w = c .before .before .before .before .before .before .before .before .write-record in
-    let (t, e, is) = written-told n (treeOf n r) (w .result) (w .ensures) .0
-    (not-false (w .result .ok) (c .before .before .before .before .before .before .if1 .left)) in
-    let red = c .before .before .before .before .before .reduced in
-    let m = c .before .before .before .pair-count in
-    subst (λ a. Gives (decomposed (rooms b ar) n r) b ar a b ar) (sym (c .refused .ensures))
-    (gives-9 n (s .pre .0 .1) r (s .pre .1 .0) t e (w .result) is (red .result) (red .ensures) (m .result) (m .ensures) b ar
-    (c .before .if2 .taken))
+    let m = c .before .before .before in
+    let r = m .before .before in
+    let k = was (with-tree r) in
+    let (t, e, is) = told (with-tree r) in
+    subst (λ a. Gives (whole k) (bytes k) (area k) a (bytes k) (area k)) (sym (c .refused .ensures))
+    (gives-9 (n k) (few k) (order k) (strict k) t e (wrote k) is (covering r) (r .reduced .ensures) (m .pair-count .result) (m .pair-count .ensures)
+    (bytes k) (area k) (c .before .if2 .taken))
 
--- src/order.rt:56:21
 mul-if3 : tie.Need-mul-if3
 mul-if3 c =
-    let test = c .before .before .before .before .before .before .before .before .before in
-    let s = test .before .before .before .before in
-    let red = c .before .before .before .before .reduced in
-    let m = c .before .before .pair-count in
+    let m = c .before .before in
+    let r = m .before .before in
+    let k = was (with-tree r) in
     record {
       fits = omega (
         arith,
-        count-few (s .args .n) (holds (s .args .after .now)) (red .result) (m .result)
-            (s .pre .0 .1) (s .pre .1 .0) (red .ensures) (m .ensures),
+        count-few (n k) (order k) (covering r) (m .pair-count .result) (few k) (strict k) (r .reduced .ensures) (m .pair-count .ensures),
       );
     }
 
--- src/order.rt:57:9
 refused-requires-2 : tie.Need-refused-requires-2
 refused-requires-2 c κs = search needs
 
--- src/order.rt:57:9
 returns-3 : tie.Need-returns-3
 returns-3 c =
-    let test = c .before .before .before .before .before .before .before .before .before in
-    let s = test .before .before .before .before .before .before in
-    let n = s .args .n in
-    let r = holds (s .args .after .now) in
-    let b = s .args .bytes .now in
-    let ar = s .args .area .now in
-    let w = test .write-record in
-    let (t, e, is) = written-told n (treeOf n r) (w .result) (w .ensures) .0
-    (not-false (w .result .ok) (c .before .before .before .before .before .before .before .if1 .left)) in
-    let red = c .before .before .before .before .before .before .reduced in
-    let m = c .before .before .before .before .pair-count in
-    subst (λ a. Gives (decomposed (rooms b ar) n r) b ar a b ar) (sym (c .refused2 .ensures))
-    (gives-10 n (s .pre .0 .1) r (s .pre .1 .0) t e (w .result) is (red .result) (red .ensures) (m .result) (m .ensures) b ar
-    (c .before .before .if2 .left) (c .before .if3 .taken))
+    let m = c .before .before .before .before in
+    let r = m .before .before in
+    let k = was (with-tree r) in
+    let (t, e, is) = told (with-tree r) in
+    subst (λ a. Gives (whole k) (bytes k) (area k) a (bytes k) (area k)) (sym (c .refused2 .ensures))
+    (gives-10 (n k) (few k) (order k) (strict k) t e (wrote k) is (covering r) (r .reduced .ensures) (m .pair-count .result) (m .pair-count .ensures)
+    (bytes k) (area k) (c .before .before .if2 .left) (c .before .if3 .taken))
 
--- src/order.rt:62:5
 copy-requires : tie.Need-copy-requires
 copy-requires c κs =
-    let test = c .before .before .before .before .before .before .before .before .before in
-    let s = test .before .before .before .before .before .before .before .before .before .before in
-    let n = s .args .n in
-    let r = holds (s .args .after .now) in
-    let b = s .args .bytes .now in
-    let ar = s .args .area .now in
-    let w = test .before .before .before .before .write-record in
-    let (t, e, is) = written-told n (treeOf n r) (w .result) (w .ensures) .0
-    (not-false (w .result .ok) (test .before .before .if1 .left)) in
-    let few = bytes-few n (s .pre .0 .1) r (s .pre .1 .0) t e (w .result) is in
-    let size = bytes-size n (s .pre .0 .1) r (s .pre .1 .0) t e (w .result) is in
-    (few, size, c .before .before .before .before .before .before .if2 .left)
+    let fits = c .before .before .before .before .before .before in
+    let r = fits .before .before .before .before in
+    let k = was (with-tree r) in
+    let (t, e, is) = told (with-tree r) in (
+      bytes-few (n k) (few k) (order k) (strict k) t e (wrote k) is,
+      bytes-size (n k) (few k) (order k) (strict k) t e (wrote k) is,
+      fits .if2 .left,
+    )
 
--- src/order.rt:63:5
+-- both fit, and the record is copied
+module _ (c : tie.After-copy) where
+  abbrev room : tie.Else3
+  room = c .before .before .before .before .before .before
+
+  abbrev counted : tie.After-pair-count
+  counted = room .before .before .before
+
 write-pairs-requires : tie.Need-write-pairs-requires
 write-pairs-requires c κs =
-    let test = c .before .before .before .before .before .before .before .before .before in
-    let s = test .before .before .before .before .before .before .before .before .before .before .before .before .before .before .before in
-    let red = test .before .before .before .before .before .before .reduced in
-    let m = test .before .before .before .before .pair-count in
-    let inside = reduced-inside (s .args .n) (s .args .after .now) (red .result) (s .pre .1 .1) (red .ensures) in
-    (s .pre .0 .1, (inside, omega (arith, m .ensures, test .before .if3 .left)))
+    let w = c .before .before .before .before in
+    let m = counted w in
+    let r = m .before .before in
+    (few (was (with-tree r)), (inside r, omega (arith, m .pair-count .ensures, room w .if3 .left)))
 
--- src/order.rt:39:1
 same-length : tie.Need-same-length
 same-length c = search needs
 
--- src/order.rt:39:1
 same-length-2 : tie.Need-same-length-2
 same-length-2 c = search needs
 
--- src/order.rt:39:1
 returns-4 : tie.Need-returns-4
 returns-4 c =
-    let test = c .before .before .before .before .before .before .before .before .before in
-    let split = test .before .before .before .before .before .before .before .before .before in
-    let s = split .before .before .before .before .before .before .before .before .before in
-    let n = s .args .n in
-    let r = holds (s .args .after .now) in
-    let b = s .args .bytes .now in
-    let ar = s .args .area .now in
-    let w = test .before .before .before .before .before .before .before .before .before .before .before .before .write-record in
-    let (t, e, is) = written-told n (treeOf n r) (w .result) (w .ensures) .0
-    (not-false (w .result .ok) (test .before .before .before .before .before .before .before .before .before .before .if1 .left)) in
-    let red = test .before .before .before .before .before .before .before .before .before .reduced in
-    let m = test .before .before .before .before .before .before .before .pair-count in
-    gives-0 n (s .pre .0 .1) r (s .pre .1 .0) t e (w .result) is (red .result) (red .ensures) (m .result) (m .ensures) b ar
-    (test .before .before .before .before .before .if2 .left) (test .before .before .before .before .if3 .left)
-    _ _ (c .before .before .before .before .before .before .before .copy .ensures) (c .before .before .write-pairs .ensures)
+    let w = c .before .before .before .before .before .before .before in
+    let m = counted w in
+    let r = m .before .before in
+    let k = was (with-tree r) in
+    let (t, e, is) = told (with-tree r) in
+    gives-0 (n k) (few k) (order k) (strict k) t e (wrote k) is (covering r) (r .reduced .ensures) (m .pair-count .result) (m .pair-count .ensures)
+    (bytes k) (area k) (room w .before .if2 .left) (room w .if3 .left) _ _ (w .copy .ensures) (c .before .before .write-pairs .ensures)
 
 pub take-apart-spec : {M : Type 1} → statement M
 take-apart-spec =

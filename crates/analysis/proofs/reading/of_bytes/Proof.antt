@@ -53,19 +53,17 @@ order-of-requires : tie.Need-order-of-requires
 order-of-requires c κs = ready _ _ (read-tree (c .before .before .before .before))
 
 reduced-requires : tie.Need-reduced-requires
-reduced-requires c κs =
-    let o = c .before in
-    (read-tree (e o) .spells .most, (order-strict o, order-inside o))
+reduced-requires c κs = (read-tree (e c) .spells .most, (order-strict c, order-inside c))
 
 pair-count-requires : tie.Need-pair-count-requires
 pair-count-requires c κs =
-    let o = c .before .before .before in
+    let o = c .before .before in
     (read-tree (e o) .spells .most, reduced-inside _ _ (c .before .reduced .result) (order-inside o) (c .before .reduced .ensures))
 
 mul-if2 : tie.Need-mul-if2
 mul-if2 c =
     let red = c .before .before .reduced in
-    let o = c .before .before .before .before in
+    let o = c .before .before .before in
     record {
       fits = omega (
         arith,
@@ -79,7 +77,7 @@ refused-requires-2 c κs = search needs
 returns-2 : tie.Need-returns-2
 returns-2 c =
     let m = c .before .before in
-    let o = m .before .before .before .before in
+    let o = m .before .before .before in
     let s = e o .before .before .before .before .before in
     let b = s .args .bytes .now in
     let ar = s .args .area .now in
@@ -91,7 +89,7 @@ returns-2 c =
 write-pairs-requires : tie.Need-write-pairs-requires
 write-pairs-requires c κs =
     let m = c .before .before .before in
-    let o = m .before .before .before .before in
+    let o = m .before .before .before in
     let red = m .before .before .reduced in (
       read-tree (e o) .spells .most,
       (reduced-inside _ _ (red .result) (order-inside o) (red .ensures), omega (arith, m .pair-count .ensures, c .before .before .if2 .left)),
@@ -104,7 +102,7 @@ returns-3 : tie.Need-returns-3
 returns-3 c =
     let w = c .before .before in
     let m = w .before .before .before .before in
-    let o = m .before .before .before .before in
+    let o = m .before .before .before in
     let s = e o .before .before .before .before .before in
     let red = m .before .before .reduced in
     back-0 (s .args .bytes .now) _ (read-tree (e o)) (o .order-of .result) (o .order-of .ensures) (red .result) (red .ensures)

@@ -17,19 +17,19 @@ abbrev at : List (List ℕ) → ℕ → Option ℕ
 at t u = onlyIf (holds t u u) u
 
 abbrev Inv-loop : tie.InvT-loop
-Inv-loop t n u₀ u = Looked (at t) n u
+Inv-loop n t u₀ u = Looked (at t) n u
 
 abbrev μ-loop : tie.MeasureT-loop
-μ-loop t n u₀ u = n - u
+μ-loop n t u₀ u = n - u
 
 loop-holds : tie.Need-loop-holds Inv-loop μ-loop
-loop-holds c = looked-none (at (c .args .t .now)) (c .args .n)
+loop-holds c = looked-none (at (c .args .t1)) (c .args .n)
 
 mul-contains : tie.Need-mul-contains Inv-loop μ-loop
 mul-contains c = search needs
 
-element-copy-out-contains : tie.Need-element-copy-out-contains Inv-loop μ-loop
-element-copy-out-contains c = search needs
+array-copy-out-contains : tie.Need-array-copy-out-contains Inv-loop μ-loop
+array-copy-out-contains c = search needs
 
 contains-requires : tie.Need-contains-requires Inv-loop μ-loop
 contains-requires c κs = search needs
@@ -38,7 +38,7 @@ returns : tie.Need-returns Inv-loop μ-loop
 unfolding firstOnCycle holds onlyIf
 returns c =
     let l = c .before .before .before .before in
-    looked-hit (at (l .before .args .t .now)) (l .before .args .n) (l .loop .u) (l .loop .inv) (search needs)
+    looked-hit (at (l .before .args .t1)) (l .before .args .n) (l .loop .u) (l .loop .inv) (search needs)
     (rw (sym (c .before .contains .ensures) ∙ c .if1 .taken))
 
 add-u : tie.Need-add-u Inv-loop μ-loop
@@ -51,12 +51,12 @@ loop-again : tie.Need-loop-again Inv-loop μ-loop
 unfolding firstOnCycle holds onlyIf
 loop-again c =
     let l = c .before .before .before .before in
-    looked-next (at (l .before .args .t .now)) (l .before .args .n) (l .loop .u) (l .loop .inv) (search needs)
+    looked-next (at (l .before .args .t1)) (l .before .args .n) (l .loop .u) (l .loop .inv) (search needs)
     (rw (sym (c .before .contains .ensures) ∙ c .if1 .left))
 
 returns-2 : tie.Need-returns-2 Inv-loop μ-loop
 unfolding firstOnCycle holds onlyIf
-returns-2 c = looked-end (at (c .before .before .args .t .now)) (c .before .before .args .n) (c .before .loop .u) (c .before .loop .inv) (c .loop-test .left)
+returns-2 c = looked-end (at (c .before .before .args .t1)) (c .before .before .args .n) (c .before .loop .u) (c .before .loop .inv) (c .loop-test .left)
 
 pub first-on-cycle-spec : {M : Type 1} → statement M
 first-on-cycle-spec =
@@ -66,7 +66,7 @@ first-on-cycle-spec =
     μ-loop
     loop-holds
     mul-contains
-    element-copy-out-contains
+    array-copy-out-contains
     contains-requires
     returns
     add-u

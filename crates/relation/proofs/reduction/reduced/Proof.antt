@@ -10,28 +10,28 @@ use Rattle.relation.proofs.reduction.reduced.Statement.{statement}
 use Rattle.relation.proofs.reduction.reduced.Tie as tie
 
 abbrev Inv-loop : tie.InvT-loop
-Inv-loop t n r₀ dom u₀ r u = Filled (covers n (holds t)) r n u
+Inv-loop n t r₀ dom u₀ r u = Filled (covers n (holds t)) r n u
 
 abbrev μ-loop : tie.MeasureT-loop
-μ-loop t n r₀ dom u₀ r u = n - u
+μ-loop n t r₀ dom u₀ r u = n - u
 
 domain-requires : tie.Need-domain-requires Inv-loop μ-loop
 domain-requires c κs = search needs
 
 loop-holds : tie.Need-loop-holds Inv-loop μ-loop
-loop-holds c = let a = c .before .args in filled-none (covers (a .n) (holds (a .t .now))) (a .n)
+loop-holds c = let a = c .before .before .args in filled-none (covers (a .n) (holds (a .t1))) (a .n)
 
 beyond-requires : tie.Need-beyond-requires Inv-loop μ-loop
 beyond-requires c κs =
-    let d = c .before .before in
-    let p = d .before .pre in
+    let d = c .before .before .before in
+    let p = d .before .before .pre in
     ((search needs, search needs), (p .1 .0, (p .1 .1, d .domain .ensures)))
 
 mul-difference : tie.Need-mul-difference Inv-loop μ-loop
 mul-difference c = search needs
 
-element-copy-out-difference : tie.Need-element-copy-out-difference Inv-loop μ-loop
-element-copy-out-difference c = search needs
+array-copy-out-difference : tie.Need-array-copy-out-difference Inv-loop μ-loop
+array-copy-out-difference c = search needs
 
 difference-requires : tie.Need-difference-requires Inv-loop μ-loop
 difference-requires c κs = search needs
@@ -50,17 +50,17 @@ loop-less c = omega arith
 
 loop-again : tie.Need-loop-again Inv-loop μ-loop
 loop-again c =
-    let l = c .before .before .before .before .loop in
-    let s = c .before .before .before .before .before .before in
-    filled-next (covers (s .args .n) (holds (s .args .t .now))) (s .args .n) (l .r) (l .u) (l .inv) (search needs) (search needs) (c .difference .result)
-    (covers-row (s .args .t .now) (s .args .n) (l .u) (c .difference .result) _ (c .difference .ensures) (c .before .before .beyond .ensures))
+    let l = c .before .before .before .before .before .loop in
+    let s = c .before .before .before .before .before .before .before .before in
+    filled-next (covers (s .args .n) (holds (s .args .t1))) (s .args .n) (l .r) (l .u) (l .inv) (search needs) (search needs) (c .difference .result)
+    (covers-row (s .args .t1) (s .args .n) (l .u) (c .difference .result) _ (c .difference .ensures) (c .before .before .beyond .ensures))
 
 returns : tie.Need-returns Inv-loop μ-loop
 returns c =
     let l = c .before .loop in
-    let s = c .before .before .before in
-    filled-end (covers (s .args .n) (holds (s .args .t .now))) (s .args .n) (l .r) (l .u) (l .inv) (c .loop-test .left)
-    (λ u v e. covers-inside (s .args .t .now) (s .args .n) (s .pre .1 .1) u v e .0)
+    let s = c .before .before .before .before in
+    filled-end (covers (s .args .n) (holds (s .args .t1))) (s .args .n) (l .r) (l .u) (l .inv) (c .loop-test .left)
+    (λ u v e. covers-inside (s .args .t1) (s .args .n) (s .pre .1 .1) u v e .0)
 
 pub reduced-spec : {M : Type 1} → statement M
 reduced-spec =
@@ -72,7 +72,7 @@ reduced-spec =
     loop-holds
     beyond-requires
     mul-difference
-    element-copy-out-difference
+    array-copy-out-difference
     difference-requires
     mul-r
     array-set-from-r

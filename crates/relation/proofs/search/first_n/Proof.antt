@@ -12,21 +12,21 @@ use Rattle.relation.proofs.search.first_n.Statement.{statement}
 use Rattle.relation.proofs.search.first_n.Tie as tie
 
 abbrev Inv-loop : tie.InvT-loop
-Inv-loop after under n free a₀ a = Looked (at-a n (holds after)) n a
+Inv-loop under n after free a₀ a = Looked (at-a n (holds after)) n a
 
 abbrev μ-loop : tie.MeasureT-loop
-μ-loop after under n free a₀ a = n - a
+μ-loop under n after free a₀ a = n - a
 
 incomparabilities-requires : tie.Need-incomparabilities-requires Inv-loop μ-loop
-incomparabilities-requires c κs = (c .pre .0, c .pre .1 .1)
+incomparabilities-requires c κs = let p = c .before .pre in (p .0, p .1 .1)
 
 loop-holds : tie.Need-loop-holds Inv-loop μ-loop
-loop-holds c = looked-none (at-a (c .before .args .n) (holds (c .before .args .after .now))) (c .before .args .n)
+loop-holds c = let a = c .before .before .args in looked-none (at-a (a .n) (holds (a .t1))) (a .n)
 
 first-with-a-requires : tie.Need-first-with-a-requires Inv-loop μ-loop
 first-with-a-requires c κs =
-    let k = c .before .before .before in
-    let s = k .before in
+    let k = c .before .before .before .before in
+    let s = k .before .before in
     ((s .pre .0, search needs), (s .pre .1 .0, k .incomparabilities .ensures))
 
 enum-told : tie.Need-enum-told Inv-loop μ-loop
@@ -39,11 +39,11 @@ returns : tie.Need-returns Inv-loop μ-loop
 unfolding firstN
 returns c =
     let w = c .before .before in
-    let l = w .before .before .before .loop in
-    let s = w .before .before .before .before .before in
+    let l = w .before .before .before .before .loop in
+    let s = w .before .before .before .before .before .before .before in
     let e = ap foundFour (c .enum-told2 .given .1) in
     e
-    ∙ looked-hit (at-a (s .args .n) (holds (s .args .after .now))) (s .args .n) (l .a) (l .inv) (search needs) (sym (w .first-with-a .ensures) ∙ e)
+    ∙ looked-hit (at-a (s .args .n) (holds (s .args .t1))) (s .args .n) (l .a) (l .inv) (search needs) (sym (w .first-with-a .ensures) ∙ e)
 
 add-a : tie.Need-add-a Inv-loop μ-loop
 add-a c = search needs
@@ -54,16 +54,16 @@ loop-less c = omega arith
 loop-again : tie.Need-loop-again Inv-loop μ-loop
 loop-again c =
     let w = c .before .before in
-    let l = w .before .before .before .loop in
-    let s = w .before .before .before .before .before in
-    looked-next (at-a (s .args .n) (holds (s .args .after .now))) (s .args .n) (l .a) (l .inv) (search needs)
+    let l = w .before .before .before .before .loop in
+    let s = w .before .before .before .before .before .before .before in
+    looked-next (at-a (s .args .n) (holds (s .args .t1))) (s .args .n) (l .a) (l .inv) (search needs)
     (sym (w .first-with-a .ensures) ∙ ap foundFour (c .enum-told .given .1))
 
 returns-2 : tie.Need-returns-2 Inv-loop μ-loop
 unfolding firstN
 returns-2 c =
-    let s = c .before .before .before in
-    looked-end (at-a (s .args .n) (holds (s .args .after .now))) (s .args .n) (c .before .loop .a) (c .before .loop .inv) (c .loop-test .left)
+    let s = c .before .before .before .before in
+    looked-end (at-a (s .args .n) (holds (s .args .t1))) (s .args .n) (c .before .loop .a) (c .before .loop .inv) (c .loop-test .left)
 
 pub first-n-spec : {M : Type 1} → statement M
 first-n-spec =

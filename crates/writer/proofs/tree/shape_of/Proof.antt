@@ -8,6 +8,7 @@ use native.Mathlib.Omega.{arith}
 use lib.Dec.{ltb}
 use lib.ListN.{length, getD, replicate, set}
 use Rattle.poset.specs.Order.{Rel}
+use Rattle.poset.specs.Decompose.{treeOf}
 use Rattle.poset.proofs.Laws.{lt-true}
 use Rattle.relation.specs.Table.{members, holds}
 use Rattle.writer.specs.declared.tree.Progress.{Progress}
@@ -17,40 +18,43 @@ use Rattle.writer.specs.Tokens.{shape}
 use Rattle.writer.proofs.Leads.{lead-member, single}
 use Rattle.writer.proofs.Entries.{EntryOk}
 use Rattle.writer.proofs.Shaping.{Arrays, Shaping, height-few, shape-start, top-ok, room, opens, leaf-turn, group-cut, shape-done, no-tree}
-use Rattle.writer.proofs.Roots.{Tables, tables, root-cut, members-all, cut-joined, under-partial, stuck, alike}
+use Rattle.writer.proofs.Roots.{Tables, tables, transpose, transpose-is, root-cut, members-all, cut-joined, under-partial, stuck, alike}
 use Rattle.writer.proofs.tree.shape_of.Statement.{statement}
 use Rattle.writer.proofs.tree.shape_of.Tie as tie
 
 abbrev Inv-loop : tie.InvT-loop
-Inv-loop after under n tied free parts₀ stack₀ numbers₀ kinds₀ fields₀ forward₀ reverse₀ first p₀ parts stack numbers kinds fields forward reverse p =
-    Tables n (holds after) (holds under) (holds tied) (holds free)
+Inv-loop under n tied free parts₀ stack₀ numbers₀ kinds₀ fields₀ forward₀ reverse₀ first p₀ parts stack numbers kinds fields forward reverse p =
+    Tables n (transpose (holds under)) (holds under) (holds tied) (holds free)
     × (length parts ≡ 128)
-    × Shaping n (holds after) (holds tied) (holds free)
+    × Shaping n (transpose (holds under)) (holds tied) (holds free)
     (record { stack = stack; numbers = numbers; kinds = kinds; fields = fields; forward = forward; reverse = reverse })
     p
 
 abbrev μ-loop : tie.MeasureT-loop
-μ-loop after under n tied free parts₀ stack₀ numbers₀ kinds₀ fields₀ forward₀ reverse₀ first p₀ parts stack numbers kinds fields forward reverse p =
+μ-loop under n tied free parts₀ stack₀ numbers₀ kinds₀ fields₀ forward₀ reverse₀ first p₀ parts stack numbers kinds fields forward reverse p =
     512 - p .count
 
 compare-requires : tie.Need-compare-requires Inv-loop μ-loop
-compare-requires c κs = (c .before .before .pre .0 .1, refl, refl)
+compare-requires c κs = (c .before .before .before .pre .0 .1, refl, refl)
 
 first-entry-requires : tie.Need-first-entry-requires Inv-loop μ-loop
 first-entry-requires c κs =
-    let s = c .before .before .before .before .before .before .before in
+    let s = c .before .before .before .before .before .before .before .before in
     (s .pre .0 .1, (under-partial _ _ _ (s .pre .1 .0) (s .pre .1 .1 .0) (s .pre .1 .1 .1), refl))
 
 -- all jobs are on the stack
 module _ (c : tie.After-first-entry Inv-loop μ-loop) where
   abbrev s : tie.Start Inv-loop μ-loop
-  s = c .before .before .before .before .before .before .before .before
-
-  abbrev order : Rel
-  order = holds (s .args .after .now)
+  s = c .before .before .before .before .before .before .before .before .before
 
   abbrev under : Rel
   under = holds (s .args .under .now)
+
+  abbrev order : Rel
+  order = transpose under
+
+  same-shape : shape (treeOf (s .args .n) order) ≡ shape (treeOf (s .args .n) (holds (s .args .t1)))
+  same-shape = ap (λ r. shape (treeOf (s .args .n) r)) (transpose-is _ _ (s .pre .1 .1 .1))
 
   abbrev tied : Rel
   tied = holds (c .before .before .before .before .before .compare .last .1 .1 .1 .0)
@@ -254,7 +258,7 @@ returns c =
     let joined = cut-joined (c .before .before .split-as .ensures) (omega (arith, ok z .fits, few z)) (c .before .if4 .taken) (ok z .some) in
     let none = no-tree _ _ (t .strict) (stuck _ (t .few) _ _ _ _ (t .strict) (t .turned) (t .tied-is) (t .free-is) _ (ok z)
     (λ e. c .before .before .before .before .before .before .if3 .left (z .size .ensures .0 ∙ e)) joined) in
-    c .no-shape .ensures ∙ ap shape (sym none)
+    c .no-shape .ensures ∙ ap shape (sym none) ∙ same-shape (begin z)
 
 spread-requires-2 : tie.Need-spread-requires-2 Inv-loop μ-loop
 spread-requires-2 c κs =
@@ -300,7 +304,9 @@ returns-2 : tie.Need-returns-2 Inv-loop μ-loop
 returns-2 c =
     let l = c .before .before .before .loop in
     let t = l .inv .0 in
-    c .shaped .ensures ∙ shape-done _ (t .few) _ _ _ (t .strict) _ _ (l .inv .2) (omega (arith, c .before .if2 .left))
+    c .shaped .ensures
+    ∙ shape-done _ (t .few) _ _ _ (t .strict) _ _ (l .inv .2) (omega (arith, c .before .if2 .left))
+    ∙ same-shape (c .before .before .before .before .before)
 
 pub shape-of-spec : {M : Type 1} → statement M
 shape-of-spec =

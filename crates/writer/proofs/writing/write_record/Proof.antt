@@ -17,20 +17,17 @@ use Rattle.writer.specs.declared.tree.Shape.{Shape}
 use Rattle.writer.proofs.writing.write_record.Statement.{statement}
 use Rattle.writer.proofs.writing.write_record.Tie as tie
 
--- src/writing.rt:43:9
 shape-of-requires : tie.Need-shape-of-requires
 shape-of-requires c κs = search needs
 
--- src/writing.rt:45:9
 unwritten-requires : tie.Need-unwritten-requires
 unwritten-requires c κs = search needs
 
--- src/writing.rt:45:9
 returns : tie.Need-returns
 returns c =
     let a = c .before .before .before .before .args in
     let shape = c .before .before .before .shape-of in
-    let none = shape-told (treeOf (a .n) (holds (a .after .now))) (shape .result) (shape .ensures) .1 (not-true (shape .result .ok) (c .before .if1 .taken)) in
+    let none = shape-told (treeOf (a .n) (holds (a .after))) (shape .result) (shape .ensures) .1 (not-true (shape .result .ok) (c .before .if1 .taken)) in
     c .unwritten .ensures ∙ ap (written (a .n)) (sym none)
 
 -- the shape of a tree
@@ -42,40 +39,36 @@ module _ (c : tie.Else1) where
   shape-of = c .before .before .shape-of .result
 
   abbrev tree : Option Tree
-  tree = treeOf (start .args .n) (holds (start .args .after .now))
+  tree = treeOf (start .args .n) (holds (start .args .after))
 
   told : (t : Tree) × (tree ≡ some t) × (shape-of ≡ shape (some t))
   told = shape-told tree shape-of (c .before .before .shape-of .ensures) .0 (not-false (shape-of .ok) (c .if1 .left))
 
   fits : shape-of .count ≤ 256
-  fits = let (t, e, is) = told in count-fits (start .args .n) (start .pre .0 .1) (holds (start .args .after .now)) (start .pre .1 .0) t e shape-of is
+  fits = let (t, e, is) = told in count-fits (start .args .n) (start .pre .0 .1) (holds (start .args .after)) (start .pre .1 .0) t e shape-of is
 
   size : length (shape-of .fields) ≡ 256
-  size = let (t, e, is) = told in fields-size (start .args .n) (start .pre .0 .1) (holds (start .args .after .now)) (start .pre .1 .0) t e shape-of is
+  size = let (t, e, is) = told in fields-size (start .args .n) (start .pre .0 .1) (holds (start .args .after)) (start .pre .1 .0) t e shape-of is
 
--- src/writing.rt:48:32
 array-share-prefix-fields : tie.Need-array-share-prefix-fields
 array-share-prefix-fields c = omega (arith, fits (c .before), size (c .before))
 
--- src/writing.rt:48:32
 slice-aggregate-pack : tie.Need-slice-aggregate-pack
 slice-aggregate-pack c = sym (length-take-le _ _ (omega (arith, fits (c .before .before), size (c .before .before))))
 
--- src/writing.rt:48:9
 pack-requires : tie.Need-pack-requires
 pack-requires c κs =
     let s = start (c .before .before) in
     let (t, e, is) = told (c .before .before) in
-    let p = spells (s .args .n) (s .pre .0 .1) (holds (s .args .after .now)) (s .pre .1 .0) t e _ is in
+    let p = spells (s .args .n) (s .pre .0 .1) (holds (s .args .after)) (s .pre .1 .0) t e _ is in
     (s .pre .0, (p .low, p .room))
 
--- src/writing.rt:36:1
 returns-2 : tie.Need-returns-2
 returns-2 c =
     let x = c .before .before .before .before .before .before in
     let s = start x in
     let (t, e, is) = told x in
-    wrote (s .args .n) (s .pre .0 .1) (holds (s .args .after .now)) (s .pre .1 .0) t e _ is _ _ (c .before .before .before .pack .ensures)
+    wrote (s .args .n) (s .pre .0 .1) (holds (s .args .after)) (s .pre .1 .0) t e _ is _ _ (c .before .before .before .pack .ensures)
 
 pub write-record-spec : {M : Type 1} → statement M
 write-record-spec =
