@@ -15,7 +15,7 @@ use Rattle.record.specs.Bits.{AllBelow}
 use Rattle.record.specs.Layout.{IsRecord}
 use Rattle.sheet.specs.Text.{LineForm, Continues}
 use Rattle.sheet.proofs.Theorems.{scan-place}
-use Rattle.reader.proofs.Whole.{all-below}
+use Rattle.reader.proofs.Whole
 use Rattle.analysis.specs.Bounds.{longestSheet}
 use Rattle.analysis.specs.Outcome.{Rooms, roomy, Outcome, sheetOutcome, pairOutcome, recordOutcome}
 use Rattle.analysis.specs.Sentences.{limits, SheetNumber, PairNumber, RecordNumber}
@@ -31,7 +31,7 @@ use Rattle.analysis.proofs.Crossed
 
 -- Theorems on a record ask `AllBelow 256` of its bytes. Every slice of bytes meets it: the kit gives of each element of a `&[u8]` that it fits 8 bits.
 pub slice-below : (bytes : List ℕ) → ((i : ℕ) → Fits w8 (getD bytes i 0)) → AllBelow 256 bytes
-slice-below bytes fit = all-below 256 bytes (λ i. fit i .fits)
+slice-below = Whole.slice-below
 
 -- Demand 1.
 

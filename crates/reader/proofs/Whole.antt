@@ -7,6 +7,8 @@ use mathlib.Core.Option.{none}
 use native.Mathlib.Omega.{arith}
 use lib.ListN.{length, getD, drop, replicate, length-append, getD-replicate}
 use lib.Seq.{drop-at}
+use mir.Syntax.{w8}
+use mir.Val.{Fits}
 use Rattle.poset.specs.Tree.{Tree, leaves, reversed, groups}
 use Rattle.poset.proofs.Laws.{clash}
 use Rattle.poset.proofs.Canonical.{canon, canon-canonical}
@@ -32,9 +34,13 @@ use Rattle.reader.proofs.Inversion.{one-tree}
 use Rattle.reader.proofs.Sequences.{forward-leaves, walk-reversed, walk-below}
 
 -- a list whose elements are small
-pub all-below : (m : ℕ) (xs : List ℕ) → ((i : ℕ) → getD xs i 0 < m) → AllBelow m xs
+all-below : (m : ℕ) (xs : List ℕ) → ((i : ℕ) → getD xs i 0 < m) → AllBelow m xs
 all-below m xs h x (List·Memᴰ·head {x = y} {xs = ys} e) = subst (λ (z : ℕ). z < m) (sym e) (h 0)
 all-below m xs h x (List·Memᴰ·tail {x = y} {xs = ys} i) = all-below m ys (λ j. h (suc j)) x i
+
+-- every slice of bytes: the kit gives of each element of a `&[u8]` that it fits 8 bits
+pub slice-below : (bytes : List ℕ) → ((i : ℕ) → Fits w8 (getD bytes i 0)) → AllBelow 256 bytes
+slice-below bytes fit = all-below 256 bytes (λ i. fit i .fits)
 
 -- what the bits of a record are
 record Spelt (bytes : List ℕ) (n : ℕ) (t : Tree) : Type 0 where

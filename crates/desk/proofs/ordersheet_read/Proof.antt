@@ -1,7 +1,6 @@
 -- `desk::ordersheet_read` meets its contract: the reading does, and its answer is narrow.
-use native.Mathlib.Omega.{arith}
 use borrow.Author.Needs.{needs}
-use Rattle.reader.proofs.Whole.{all-below}
+use Rattle.reader.proofs.Whole.{slice-below}
 use Rattle.desk.proofs.Bounds.{record-narrow}
 use Rattle.desk.proofs.Telling.{gives-told}
 use Rattle.desk.proofs.ordersheet_read.Statement.{statement}
@@ -21,7 +20,7 @@ returns c =
     let k = c .before .before .before .before .before .before in
     let bytes = k .before .args .bytes .now in
     gives-told (c .before .before .before .analyse-record .ensures)
-    (record-narrow _ bytes (all-below 256 bytes (λ i. omega (arith, k .shared-slice-known .given i))))
+    (record-narrow _ bytes (slice-below bytes (k .shared-slice-known .given)))
     (c .packed .ensures)
 
 pub ordersheet-read-spec : {M : Type 1} → statement M

@@ -1,7 +1,6 @@
 -- `desk_tests::ordersheet_test_read` meets its contract: the reading does, and its answer is narrow.
-use native.Mathlib.Omega.{arith}
 use borrow.Author.Needs.{needs}
-use Rattle.reader.proofs.Whole.{all-below}
+use Rattle.reader.proofs.Whole.{slice-below}
 use Rattle.desk.proofs.Bounds.{record-narrow}
 use Rattle.desk_tests.proofs.Showing.{gives-shown}
 use Rattle.desk_tests.proofs.ordersheet_test_read.Statement.{statement}
@@ -28,7 +27,7 @@ returns c =
     let a = s .before .before .before .before .before in
     let k = a .before .before .before .before .before in
     let bytes = k .before .args .bytes .now in
-    gives-shown (a .analyse-record .ensures) (record-narrow _ bytes (all-below 256 bytes (λ i. omega (arith, k .shared-slice-known .given i))))
+    gives-shown (a .analyse-record .ensures) (record-narrow _ bytes (slice-below bytes (k .shared-slice-known .given)))
     (s .shown .ensures)
 
 pub ordersheet-test-read-spec : {M : Type 1} → statement M

@@ -2,14 +2,13 @@
 -- was read, f what holds of the job count's field.
 use Prim.Native.Nat.{ℕ, _*_, _≤_}
 use mathlib.Core.Path.{refl, sym, ap, subst, _∙_}
-use native.Mathlib.Omega.{arith}
 use borrow.Author.Needs.{needs}
 use borrow.Author.Tests.{not-true, not-false}
 use lib.ListN.{length, drop}
 use Rattle.record.specs.Bits.{AllBelow, bitsOf}
 use Rattle.record.specs.Decode.{fills}
 use Rattle.reader.proofs.Whole.{
-  all-below,
+  slice-below,
   none-empty,
   none-long,
   none-tree,
@@ -24,7 +23,7 @@ use Rattle.reader.proofs.read_record.Statement.{statement}
 use Rattle.reader.proofs.read_record.Tie as tie
 
 bytes-below : (c : tie.After-shared-slice-known) → AllBelow 256 (c .before .args .bytes .now)
-bytes-below c = all-below 256 (c .before .args .bytes .now) (λ i. omega (arith, c .shared-slice-known .given i))
+bytes-below c = slice-below (c .before .args .bytes .now) (c .shared-slice-known .given)
 
 no-record-requires : tie.Need-no-record-requires
 no-record-requires c κs = search needs

@@ -8,7 +8,7 @@ use lib.ListN.{length}
 use Rattle.poset.specs.Order.{Strict}
 use Rattle.relation.specs.Table.{holds, Inside}
 use Rattle.relation.proofs.Chain.{reduced-inside}
-use Rattle.reader.proofs.Whole.{all-below}
+use Rattle.reader.proofs.Whole.{slice-below}
 use Rattle.analysis.specs.Outcome.{recordOutcome}
 use Rattle.analysis.specs.Result.{Gives}
 use Rattle.analysis.proofs.Taking.{count-few}
@@ -21,7 +21,7 @@ read-tree : (c : tie.Else1) → Decoded (c .before .before .before .before .befo
 read-tree c =
     let r = c .before .before in
     let k = r .before .before in
-    decoded _ _ (all-below 256 _ (λ i. omega (arith, k .shared-slice-known .given i))) (r .read-record .ensures) (not-false _ (c .if1 .left))
+    decoded _ _ (slice-below _ (k .shared-slice-known .given)) (r .read-record .ensures) (not-false _ (c .if1 .left))
 
 -- the order of the two sequences
 module _ (c : tie.After-order-of) where
