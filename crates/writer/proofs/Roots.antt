@@ -1,9 +1,9 @@
 -- How the writing of a tree begins, and how it fails.
-use Prim.Native.Nat.{ℕ, zero, suc, _+_, _-_, _≤_, _<_}
+use Prim.Native.Nat.{ℕ, _+_, _-_, _≤_, _<_}
 use mathlib.Core.Path.{_≡_, refl, sym, ap, ap₂, subst, fun-ext, _∙_}
-use mathlib.Core.List.{List, [], _∷_, _++_, map, append-nil, List·Memᴰ, List·Memᴰ·head, List·Memᴰ·tail}
+use mathlib.Core.List.{List, [], _∷_, _++_, append-nil, List·Memᴰ, List·Memᴰ·head, List·Memᴰ·tail}
 use mathlib.Core.Bool.{Bool, true, false, _&&_, _||_, not}
-use mathlib.Core.Logic.{_⊎_, inl, inr, ⊎-elim}
+use mathlib.Core.Logic.{_⊎_, ⊎-elim}
 use native.Mathlib.Omega.{arith}
 use lib.Dec.{eqb, ltb}
 use lib.ListN.{length, take}
@@ -17,7 +17,7 @@ use Rattle.poset.proofs.Sums.{length-below}
 use Rattle.relation.proofs.Lists.{below-add, keep-append, keep-none}
 use Rattle.poset.proofs.Standing.{near, near-sym, near-either}
 use Rattle.poset.proofs.Linked.{Linked}
-use Rattle.poset.proofs.Components.{Of, OfBlocks, Sorted}
+use Rattle.poset.proofs.Components.{Of, Sorted}
 use Rattle.poset.proofs.Connected.{connected-n}
 use Rattle.relation.specs.Table.{has, members}
 use Rattle.writer.specs.Parts.{Walk, start, next, Partial, PartOf, Splits, Cut, closeOf}

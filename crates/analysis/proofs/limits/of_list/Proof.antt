@@ -1,9 +1,8 @@
 use borrow.Author.Needs.{needs}
 use mathlib.Core.Path.{sym, ap, subst, refl, _∙_}
-use native.Mathlib.Omega.{arith}
 use Rattle.relation.specs.Arcs.{pairs, found}
 use Rattle.analysis.specs.Result.{rooms, Gives}
-use Rattle.analysis.proofs.Crossing.{gives-same, gives-refusal}
+use Rattle.analysis.proofs.Crossing.{gives-refusal}
 use Rattle.analysis.specs.Outcome.{listed}
 use Rattle.analysis.proofs.Steps.{listed-5}
 use Rattle.analysis.proofs.limits.of_list.Statement.{statement}

@@ -1,6 +1,5 @@
 use borrow.Author.Needs.{needs}
 use mathlib.Core.Path.{sym, ap, subst, refl, _∙_}
-use native.Mathlib.Omega.{arith}
 use Rattle.relation.specs.Arcs.{pairs, found}
 use Rattle.analysis.specs.Result.{rooms, Gives}
 use Rattle.analysis.proofs.Crossing.{gives-same, gives-refusal}
