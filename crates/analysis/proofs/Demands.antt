@@ -29,7 +29,7 @@ use Rattle.analysis.proofs.ReadBack
 use Rattle.analysis.proofs.Sheets
 use Rattle.analysis.proofs.Crossed
 
--- Theorems on a record ask `AllBelow 256` of its bytes. Every slice of bytes meets it: the kit gives of each element of a `&[u8]` that it fits 8 bits.
+-- What theorems on a record ask of its bytes, `AllBelow 256`, every slice of bytes meets: the kit gives `Fits w8` of each element of a `&[u8]`.
 pub slice-below : (bytes : List ℕ) → ((i : ℕ) → Fits w8 (getD bytes i 0)) → AllBelow 256 bytes
 slice-below = Whole.slice-below
 

@@ -1,4 +1,4 @@
--- Bounds, each named once.
+-- The bound that the analysis and the program share.
 use Prim.Native.Nat.{ℕ}
 
 -- the bytes of the longest sheet

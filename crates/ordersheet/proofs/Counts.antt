@@ -1,5 +1,5 @@
 -- How many bytes there are to read into, and after a read.
-use Prim.Native.Nat.{ℕ, zero, suc, _+_, _-_, _≤_, _<_, min}
+use Prim.Native.Nat.{ℕ, zero, suc, _+_, _-_, _≤_, _<_}
 use mathlib.Core.Path.{_≡_, refl, ap}
 use mathlib.Core.List.{List}
 use native.Mathlib.Omega.{arith}
@@ -10,7 +10,7 @@ use lib.Seq.{length-take-le}
 use lib.Signed.{leZ}
 use borrow.Author.Tests.{le-leb}
 use Rattle.io.specs.Counts.{clamped}
-use Rattle.ordersheet.specs.Reading.{bufferSize, succeeded, Read, InputRead}
+use Rattle.ordersheet.specs.Reading.{bufferSize, succeeded, Read, Reads, first, next}
 use Rattle.ordersheet.specs.declared.Taken.{Taken}
 
 -- the part of a buffer after its first bytes
@@ -45,8 +45,9 @@ module _ {done : ℕ} {r : Taken} (read : Read done r) where
       let got = ap (λ (t : Taken). t .got) (read .is-told) in
       omega (arith, read-len)
 
-pub input-few : {r : Taken} → InputRead r → r .len ≤ bufferSize
-input-few i = let within = i .within in read-few (i .last) (omega arith)
+pub reads-few : {buf buf′ : List ℕ} {r : Taken} → Reads buf buf′ r → r .len ≤ bufferSize
+reads-few (first m) = read-few (m .read) (omega arith)
+reads-few (next before some within m) = read-few (m .read) (omega arith)
 
 -- a further read, after one that gave something
 pub read-falls

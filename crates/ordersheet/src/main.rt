@@ -6,7 +6,8 @@ use printer::outcome;
 ghost use Prim.Native.Nat.{_+_, _≤_};
 ghost use mathlib.Core.Path.{_≡_};
 ghost use lib.ListN.{length};
-ghost use Rattle.ordersheet.specs.Reading.{bufferSize, told, MoreRead, InputRead};
+ghost use Rattle.printer.specs.Buffer.{Prints};
+ghost use Rattle.ordersheet.specs.Reading.{bufferSize, told, MoreRead, InputRead, answered};
 
 // What a read gave: whether it went well, how many bytes it read, and how many the buffer holds then.
 struct Taken {
@@ -40,7 +41,7 @@ fn read_more(buf: &mut [u8], done: usize) -> Taken
 // Reads until the input ends, the buffer is full or a read fails: what the last read gave.
 fn read_input(buf: &mut [u8]) -> Taken
     requires { ⌜ length (now buf) ≡ bufferSize ⌝ }
-    ensures { λ r. ⌜ InputRead r ⌝ }
+    ensures { λ r. ⌜ InputRead (now (buf .entry)) (now (buf .exit)) r ⌝ }
 {
     let mut last = read_more(buf, 0);
     while last.len < buf.len() {
@@ -51,6 +52,18 @@ fn read_input(buf: &mut [u8]) -> Taken
         last = more;
     }
     last
+}
+
+// The text to print, at the start of its buffer: none where a read failed. Returns its length.
+fn text_of(input: Taken, buf: &[u8], text: &mut [u8; 40000]) -> usize
+    requires { ⌜ input .len ≤ length (now buf) ⌝ }
+    ensures { λ r. ⌜ Prints (now (text .entry)) (answered input (now (buf .entry))) (now (text .exit)) r ⌝ }
+{
+    if !input.ok {
+        return 0;
+    }
+    let len = input.len;
+    outcome::sheet_text(&buf[..len], text)
 }
 
 fn write_text(text: &[u8]) {
@@ -65,10 +78,8 @@ fn main() {
     let input = read_input(&mut sheet);
     if !input.ok {
         os::fail(b"read");
-        return;
     }
-    let len = input.len;
     let mut text = [0u8; 40000];
-    let end = outcome::sheet_text(&sheet[..len], &mut text);
+    let end = text_of(input, &sheet, &mut text);
     write_text(&text[..end]);
 }

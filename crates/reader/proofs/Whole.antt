@@ -38,7 +38,7 @@ all-below : (m : ℕ) (xs : List ℕ) → ((i : ℕ) → getD xs i 0 < m) → Al
 all-below m xs h x (List·Memᴰ·head {x = y} {xs = ys} e) = subst (λ (z : ℕ). z < m) (sym e) (h 0)
 all-below m xs h x (List·Memᴰ·tail {x = y} {xs = ys} i) = all-below m ys (λ j. h (suc j)) x i
 
--- every slice of bytes: the kit gives of each element of a `&[u8]` that it fits 8 bits
+-- any slice of bytes
 pub slice-below : (bytes : List ℕ) → ((i : ℕ) → Fits w8 (getD bytes i 0)) → AllBelow 256 bytes
 slice-below bytes fit = all-below 256 bytes (λ i. fit i .fits)
 
