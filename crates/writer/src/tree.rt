@@ -195,10 +195,11 @@ fn split_as(
     ensures { λ r. ⌜ Cut (closeOf series (holds (now (tied .entry))) (holds (now (free .entry)))) (holds (now (under .entry))) series s
         (now (parts .exit)) r ⌝ }
 {
+    let mut numbers = [0u8; 128];
     if series {
-        parts::split(free, under, true, s, parts)
+        parts::split(free, under, true, s, parts, &mut numbers)
     } else {
-        parts::split(tied, under, false, s, parts)
+        parts::split(tied, under, false, s, parts, &mut numbers)
     }
 }
 
@@ -218,7 +219,8 @@ fn first_entry(
         (now (kinds .entry)) (now (kinds .exit)) (now (parts .exit)) r ⌝ }
 {
     let all = set::all_below(n);
-    let first = parts::split(free, under, true, all, parts);
+    let mut numbers = [0u8; 128];
+    let first = parts::split(free, under, true, all, parts, &mut numbers);
     stack[0] = all;
     kinds[0] = 1 < first;
     first

@@ -11,8 +11,9 @@ all-below-requires c κs = c .pre .0
 
 split-requires : tie.Need-split-requires
 split-requires c κs =
-    let s = c .before .before in
-    ((λ v q. omega (arith, ltb-true v (s .args .n) (sym (c .before .all-below .ensures v) ∙ q), s .pre .0)), s .pre .1)
+    let all = c .before .before .all-below in
+    let s = c .before .before .before in
+    ((λ v q. omega (arith, ltb-true v (s .args .n) (sym (all .ensures v) ∙ q), s .pre .0)), (s .pre .1 .0, (s .pre .1 .1, refl)))
 
 element-set-from-all : tie.Need-element-set-from-all
 element-set-from-all c = search needs
@@ -22,8 +23,8 @@ element-write-kinds c = search needs
 
 returns : tie.Need-returns
 returns c =
-    let all = c .before .before .all-below in
-    record { all = all .result; is-all = all .ensures; on-stack = refl; kind = refl; cut = c .split .ensures }
+    let all = c .before .before .before .all-below in
+    record { all = all .result; is-all = all .ensures; on-stack = refl; kind = refl; cut = c .split .ensures .0 }
 
 pub first-entry-spec : {M : Type 1} → statement M
 first-entry-spec = tie.close (tie.spec all-below-requires split-requires element-set-from-all element-write-kinds returns)
