@@ -8,7 +8,7 @@ use lib.Dec.{ltb}
 use lib.ListN.{length, getD, set}
 use Rattle.poset.specs.Order.{Rel}
 use Rattle.relation.specs.Table.{has, members}
-use Rattle.writer.specs.Parts.{Cut}
+use Rattle.writer.specs.Parts.{Cut, Numbered}
 
 -- the smallest job of a set
 abbrev pub lead : List ℕ → ℕ
@@ -62,14 +62,15 @@ pub record Opens (e : Entry) (parts : List (List ℕ)) : Type 0 where
   pub jobs : jobsOf parts ≡ length (members (e .set))
 
 -- all jobs below n are on the stack, and taken apart as a series: if they come apart, they are to become one
-pub record FirstEntry (n : ℕ) (free under : Rel) (sets₀ sets : List (List ℕ)) (kinds₀ kinds : List Bool) (sizes₀ sizes : List ℕ)
-    (parts : List (List ℕ)) (count : ℕ) : Type 0 where
+pub record FirstEntry (n : ℕ) (free under : Rel) (numbers₀ numbers : List ℕ) (sets₀ sets : List (List ℕ)) (kinds₀ kinds : List Bool)
+    (sizes₀ sizes : List ℕ) (parts : List (List ℕ)) (count : ℕ) : Type 0 where
   pub all : List ℕ
   pub is-all : (v : ℕ) → has all v ≡ ltb v n
   pub on-stack : sets ≡ set sets₀ 0 all
   pub kind : kinds ≡ set kinds₀ 0 (ltb 1 count)
   pub size : sizes ≡ set sizes₀ 0 n
   pub cut : Cut free under true all parts count
+  pub numbered : Numbered all parts count numbers₀ numbers
 
 -- the field of a group: a series or a parallel one, by its children minus 1
 abbrev pub groupField : Bool → ℕ → ℕ

@@ -11,7 +11,7 @@ ghost use Rattle.relation.specs.Table.{members, holds, Inside};
 ghost use Rattle.poset.specs.Order.{Strict};
 ghost use Rattle.poset.specs.Decompose.{treeOf};
 ghost use Rattle.writer.specs.Tokens.{noShape, shape, shaped};
-ghost use Rattle.writer.specs.Parts.{Jobs, Partial, Cut, closeOf};
+ghost use Rattle.writer.specs.Parts.{Jobs, Partial, Cut, Numbered, closeOf};
 ghost use Rattle.writer.specs.Stack.{entries, jobsOf, spreadOut, startAt, Stacks, groupField, lead, entryAt, Opens, opened, FirstEntry};
 
 // A group: whether it is a series, where it begins in the reverse sequence, and how many jobs it has.
@@ -191,17 +191,19 @@ fn split_as(
     series: bool,
     s: [u64; 2],
     parts: &mut [[u64; 2]; 128],
+    numbers: &mut [u8; 128],
 ) -> usize
     requires { ⌜ Jobs s ⌝ }
     requires { ⌜ Partial (holds (now under)) ⌝ }
-    requires { ⌜ length (now parts) ≡ 128 ⌝ }
+    requires { ⌜ (length (now parts) ≡ 128) × (length (now numbers) ≡ 128) ⌝ }
     ensures { λ r. ⌜ Cut (closeOf series (holds (now (tied .entry))) (holds (now (free .entry)))) (holds (now (under .entry))) series s
         (now (parts .exit)) r ⌝ }
+    ensures { λ r. ⌜ Numbered s (now (parts .exit)) r (now (numbers .entry)) (now (numbers .exit)) ⌝ }
 {
     if series {
-        parts::split(free, under, true, s, parts)
+        parts::split(free, under, true, s, parts, numbers)
     } else {
-        parts::split(tied, under, false, s, parts)
+        parts::split(tied, under, false, s, parts, numbers)
     }
 }
 
@@ -211,18 +213,20 @@ fn first_entry(
     under: &[[u64; 2]; 128],
     n: usize,
     parts: &mut [[u64; 2]; 128],
+    numbers: &mut [u8; 128],
     stack: &mut [[u64; 2]; 128],
     kinds: &mut [bool; 128],
     sizes: &mut [u8; 128],
 ) -> usize
     requires { ⌜ n ≤ 128 ⌝ }
     requires { ⌜ Partial (holds (now under)) ⌝ }
-    requires { ⌜ length (now parts) ≡ 128 ⌝ }
-    ensures { λ r. ⌜ FirstEntry n (holds (now (free .entry))) (holds (now (under .entry))) (now (stack .entry)) (now (stack .exit))
-        (now (kinds .entry)) (now (kinds .exit)) (now (sizes .entry)) (now (sizes .exit)) (now (parts .exit)) r ⌝ }
+    requires { ⌜ (length (now parts) ≡ 128) × (length (now numbers) ≡ 128) ⌝ }
+    ensures { λ r. ⌜ FirstEntry n (holds (now (free .entry))) (holds (now (under .entry))) (now (numbers .entry)) (now (numbers .exit))
+        (now (stack .entry)) (now (stack .exit)) (now (kinds .entry)) (now (kinds .exit)) (now (sizes .entry)) (now (sizes .exit))
+        (now (parts .exit)) r ⌝ }
 {
     let all = set::all_below(n);
-    let first = parts::split(free, under, true, all, parts);
+    let first = parts::split(free, under, true, all, parts, numbers);
     stack[0] = all;
     kinds[0] = 1 < first;
     sizes[0] = (n % 256) as u8;
@@ -302,6 +306,7 @@ pub fn shape_of(after: [[u64; 2]; 128], under: &[[u64; 2]; 128], n: usize) -> Sh
     let mut free = [[0; 2]; 128];
     compare(&after, under, n, &mut tied, &mut free);
     let mut parts = [[0; 2]; 128];
+    let mut numbers = [0; 128];
     let mut stack = [[0; 2]; 128];
     let mut starts = [0; 128];
     let mut kinds = [false; 128];
@@ -314,6 +319,7 @@ pub fn shape_of(after: [[u64; 2]; 128], under: &[[u64; 2]; 128], n: usize) -> Sh
         under,
         n,
         &mut parts,
+        &mut numbers,
         &mut stack,
         &mut kinds,
         &mut sizes,
@@ -345,7 +351,7 @@ pub fn shape_of(after: [[u64; 2]; 128], under: &[[u64; 2]; 128], n: usize) -> Sh
             p = next;
         } else {
             let series = kinds[top];
-            let count = split_as(&tied, &free, under, series, s, &mut parts);
+            let count = split_as(&tied, &free, under, series, s, &mut parts, &mut numbers);
             if count < 2 {
                 return no_shape();
             }

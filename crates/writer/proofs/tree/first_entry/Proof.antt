@@ -13,8 +13,9 @@ all-below-requires c κs = c .pre .0
 
 split-requires : tie.Need-split-requires
 split-requires c κs =
+    let all = c .before .all-below in
     let s = c .before .before in
-    ((λ v q. omega (arith, ltb-true v (s .args .n) (sym (c .before .all-below .ensures v) ∙ q), s .pre .0)), s .pre .1)
+    ((λ v q. omega (arith, ltb-true v (s .args .n) (sym (all .ensures v) ∙ q), s .pre .0)), (s .pre .1 .0, (s .pre .1 .1 .0, s .pre .1 .1 .1)))
 
 element-set-from-all : tie.Need-element-set-from-all
 element-set-from-all c = search needs
@@ -38,7 +39,8 @@ returns c =
       on-stack = refl;
       kind = refl;
       size = ap (set (s .args .sizes .now) 0) (mod-eq-of-lt (omega (arith, s .pre .0)));
-      cut = c .split .ensures;
+      cut = c .split .ensures .0;
+      numbered = c .split .ensures .1;
     }
 
 pub first-entry-spec : {M : Type 1} → statement M

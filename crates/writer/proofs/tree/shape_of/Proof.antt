@@ -25,15 +25,15 @@ use Rattle.writer.proofs.tree.shape_of.Statement.{statement}
 use Rattle.writer.proofs.tree.shape_of.Tie as tie
 
 abbrev Inv-loop : tie.InvT-loop
-Inv-loop under n tied free parts₀ stack₀ starts₀ kinds₀ sizes₀ fields₀ forward₀ reverse₀ first p₀ parts stack starts kinds sizes fields forward reverse p =
+Inv-loop under n tied free parts₀ numbers₀ stack₀ starts₀ kinds₀ sizes₀ fields₀ forward₀ reverse₀ first p₀ parts numbers stack starts kinds sizes fields forward reverse p =
     Tables n (transpose (holds under)) (holds under) (holds tied) (holds free)
-    × (length parts ≡ 128)
+    × ((length parts ≡ 128) × (length numbers ≡ 128))
     × Shaping n (transpose (holds under)) (holds tied) (holds free)
     (record { stack = stack; starts = starts; kinds = kinds; sizes = sizes; fields = fields; forward = forward; reverse = reverse })
     p
 
 abbrev μ-loop : tie.MeasureT-loop
-μ-loop under n tied free parts₀ stack₀ starts₀ kinds₀ sizes₀ fields₀ forward₀ reverse₀ first p₀ parts stack starts kinds sizes fields forward reverse p =
+μ-loop under n tied free parts₀ numbers₀ stack₀ starts₀ kinds₀ sizes₀ fields₀ forward₀ reverse₀ first p₀ parts numbers stack starts kinds sizes fields forward reverse p =
     512 - p .count
 
 compare-requires : tie.Need-compare-requires Inv-loop μ-loop
@@ -41,13 +41,13 @@ compare-requires c κs = (c .before .before .before .pre .0 .1, refl, refl)
 
 first-entry-requires : tie.Need-first-entry-requires Inv-loop μ-loop
 first-entry-requires c κs =
-    let s = c .before .before .before .before .before .before .before .before .before in
-    (s .pre .0 .1, (under-partial _ _ _ (s .pre .1 .0) (s .pre .1 .1 .0) (s .pre .1 .1 .1), refl))
+    let s = c .before .before .before .before .before .before .before .before .before .before in
+    (s .pre .0 .1, (under-partial _ _ _ (s .pre .1 .0) (s .pre .1 .1 .0) (s .pre .1 .1 .1), (refl, refl)))
 
 -- all jobs are on the stack
 module _ (c : tie.After-first-entry Inv-loop μ-loop) where
   abbrev s : tie.Start Inv-loop μ-loop
-  s = c .before .before .before .before .before .before .before .before .before .before
+  s = c .before .before .before .before .before .before .before .before .before .before .before
 
   abbrev under : Rel
   under = holds (s .args .under .now)
@@ -59,10 +59,10 @@ module _ (c : tie.After-first-entry Inv-loop μ-loop) where
   same-shape = ap (λ r. shape (treeOf (s .args .n) r)) (transpose-is _ _ (s .pre .1 .1 .1))
 
   abbrev tied : Rel
-  tied = holds (c .before .before .before .before .before .before .compare .last .1 .1 .1 .0)
+  tied = holds (c .before .before .before .before .before .before .before .compare .last .1 .1 .1 .0)
 
   abbrev free : Rel
-  free = holds (c .before .before .before .before .before .before .compare .last .1 .1 .1 .1 .0)
+  free = holds (c .before .before .before .before .before .before .before .compare .last .1 .1 .1 .1 .0)
 
   abbrev first : ℕ
   first = c .first-entry .result
@@ -73,10 +73,10 @@ module _ (c : tie.After-first-entry Inv-loop μ-loop) where
   abbrev begun : Arrays
   begun =
       record {
-        stack = c .first-entry .last .1 .1 .1 .1 .0;
+        stack = c .first-entry .last .1 .1 .1 .1 .1 .0;
         starts = replicate 128 0;
-        kinds = c .first-entry .last .1 .1 .1 .1 .1 .0;
-        sizes = c .first-entry .last .1 .1 .1 .1 .1 .1 .0;
+        kinds = c .first-entry .last .1 .1 .1 .1 .1 .1 .0;
+        sizes = c .first-entry .last .1 .1 .1 .1 .1 .1 .1 .0;
         fields = replicate 256 0;
         forward = replicate 128 0;
         reverse = replicate 128 0;
@@ -158,7 +158,7 @@ loop-holds c =
     let b = c .before in
     let t = has-tables b in (
       t,
-      b .first-entry .ensures .cut .size,
+      (b .first-entry .ensures .cut .size, b .first-entry .ensures .numbered .size),
       ⊎-elim
           (λ w.
           let th : tie.Then1 Inv-loop μ-loop = record { before = b; if1 = w .0 } in
@@ -281,7 +281,7 @@ returns : tie.Need-returns Inv-loop μ-loop
 returns c =
     let z = c .before .before .before .before .before .before .before in
     let t = turn z .loop .inv .0 in
-    let joined = cut-joined (c .before .before .split-as .ensures) (omega (arith, ok z .fits, few z)) (c .before .if4 .taken) (ok z .some) in
+    let joined = cut-joined (c .before .before .split-as .ensures .0) (omega (arith, ok z .fits, few z)) (c .before .if4 .taken) (ok z .some) in
     let none = no-tree _ _ (t .strict) (stuck _ (t .few) _ _ _ _ (t .strict) (t .turned) (t .tied-is) (t .free-is) _ (ok z)
     (λ e. c .before .before .before .before .before .before .if3 .left (sized z ∙ e)) joined) in
     c .no-shape .ensures ∙ ap shape (sym none) ∙ same-shape (begin z)
@@ -290,7 +290,7 @@ spread-requires-2 : tie.Need-spread-requires-2 Inv-loop μ-loop
 spread-requires-2 c κs =
     let z = c .before .before .before .before .before .before .before .before .before .before .before in
     let l = turn z .loop in
-    let x = c .before .before .before .before .before .before .split-as .ensures in (
+    let x = c .before .before .before .before .before .before .split-as .ensures .0 in (
       (omega (arith, x .few, fits z .0, few z), omega (arith, x .few, fits z .0, few z), omega (arith, fits z .0, few z, ok z .some)),
       ((x .size, stacks-lower _ _ _ _ _ _ (omega (arith, up z)) (l .inv .2 .stacks)), opens _ (few z) _ _ _ _ _ (l .inv .2) (top z) (up z) _ x),
     )
@@ -298,7 +298,7 @@ spread-requires-2 c κs =
 put-group-requires-2 : tie.Need-put-group-requires-2 Inv-loop μ-loop
 put-group-requires-2 c κs =
     let z = c .before .before .before .before .before .before .before .before .before .before .before .before .before in
-    let x = c .before .before .before .before .before .before .before .before .split-as .ensures in
+    let x = c .before .before .before .before .before .before .before .before .split-as .ensures .0 in
     let two = c .before .before .before .before .before .before .before .if4 .left in
     (omega (arith, two), omega (arith, x .few, fits z .0, few z), omega (arith, fits z .1), omega (arith, fits z .3))
 
@@ -312,12 +312,12 @@ loop-again-2 c =
     let z = c .before .before .before .before .before .before .before .before .before .before .before .before .before .before in
     let l = turn z .loop in
     let t = l .inv .0 in
-    let x = c .before .before .before .before .before .before .before .before .before .split-as .ensures in
+    let x = c .before .before .before .before .before .before .before .before .before .split-as .ensures .0 in
     let e = c .before .before .spread2 .ensures in
     let two = c .before .before .before .before .before .before .before .before .if4 .left in
     let g = c .put-group2 .ensures in (
       t,
-      x .size,
+      (x .size, c .before .before .before .before .before .before .before .before .before .split-as .ensures .1 .size),
       group-cut _ (t .few) _ _ _ _ _ (l .inv .2) (top z) (up z) _ (t .strict) (t .turned)
           (alike _ (t .few) _ _ _ _ (t .strict) (t .turned) (t .tied-is) (t .free-is) (getD (l .kinds) (top z) false))
           x two _ _ _ _ _ (e .1 .0) (e .1 .1) (g .0 .0 ∙ e .0) (g .0 .1) (g .0 .2) (g .0 .3) _ (g .1),
