@@ -13,8 +13,8 @@ all-below-requires c κs = c .pre .0
 
 split-requires : tie.Need-split-requires
 split-requires c κs =
-    let all = c .before .all-below in
-    let s = c .before .before in
+    let all = c .before .before .all-below in
+    let s = c .before .before .before in
     ((λ v q. omega (arith, ltb-true v (s .args .n) (sym (all .ensures v) ∙ q), s .pre .0)), (s .pre .1 .0, (s .pre .1 .1 .0, s .pre .1 .1 .1)))
 
 element-set-from-all : tie.Need-element-set-from-all
@@ -31,8 +31,8 @@ element-write-sizes c = search needs
 
 returns : tie.Need-returns
 returns c =
-    let s = c .before .before .before in
-    let all = c .before .before .all-below in
+    let s = c .before .before .before .before in
+    let all = c .before .before .before .all-below in
     record {
       all = all .result;
       is-all = all .ensures;

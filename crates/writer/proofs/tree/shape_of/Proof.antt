@@ -26,7 +26,7 @@ use Rattle.writer.proofs.tree.shape_of.Tie as tie
 
 abbrev Inv-loop : tie.InvT-loop
 Inv-loop under n tied free parts₀ numbers₀ stack₀ starts₀ kinds₀ sizes₀ fields₀ forward₀ reverse₀ first p₀ parts numbers stack starts kinds sizes fields forward reverse p =
-    Tables n (transpose (holds under)) (holds under) (holds tied) (holds free)
+    Tables n (holds under) (holds tied) (holds free)
     × ((length parts ≡ 128) × (length numbers ≡ 128))
     × Shaping n (transpose (holds under)) (holds tied) (holds free)
     (record { stack = stack; starts = starts; kinds = kinds; sizes = sizes; fields = fields; forward = forward; reverse = reverse })
@@ -85,10 +85,10 @@ module _ (c : tie.After-first-entry Inv-loop μ-loop) where
   abbrev nothing : Progress
   nothing = record { height = 1; count = 0; groups = 0; placed = 0 }
 
-  has-tables : Tables (s .args .n) order under tied free
+  has-tables : Tables (s .args .n) under tied free
   has-tables =
       tables _ _ _ _ _ (s .pre .0 .1) (s .pre .1 .0) (s .pre .1 .1 .0) (s .pre .1 .1 .1)
-      (c .before .before .before .before .before .before .compare .ensures .0) (c .before .before .before .before .before .before .compare .ensures .1)
+      (c .before .before .before .before .before .before .before .compare .ensures .0) (c .before .before .before .before .before .before .before .compare .ensures .1)
 
   on-stack : getD (begun .stack) 0 [] ≡ c .first-entry .ensures .all
   on-stack = ap (λ l. getD l 0 []) (c .first-entry .ensures .on-stack)
@@ -108,7 +108,7 @@ module _ (c : tie.After-first-entry Inv-loop μ-loop) where
       let t = has-tables in
       let e = c .first-entry .ensures in
       shape-start (s .args .n) (t .few) order tied free (e .all) (ltb 1 first) (members-all _ _ (t .few) (e .is-all))
-      (root-cut _ (s .pre .0 .0) (t .few) _ _ _ _ (t .strict) (t .turned) (t .tied-is) (t .free-is) _ (e .is-all) (e .cut))
+      (root-cut _ (s .pre .0 .0) (t .few) _ _ _ _ (t .strict) (λ u v. refl) (t .tied-is) (t .free-is) _ (e .is-all) (e .cut))
       begun
       (record {
         sets-length = ap length (e .on-stack);
@@ -175,8 +175,8 @@ loop-holds c =
             reverse = replicate 128 0;
           })
           (sym (w .14))
-          (group-cut _ (t .few) _ _ _ _ _ (begins b) 0 refl _ (t .strict) (t .turned)
-          (alike _ (t .few) _ _ _ _ (t .strict) (t .turned) (t .tied-is) (t .free-is) (getD (begun b .kinds) 0 false))
+          (group-cut _ (t .few) _ _ _ _ _ (begins b) 0 refl _ (t .strict) (λ u v. refl)
+          (alike _ (t .few) _ _ _ _ (t .strict) (λ u v. refl) (t .tied-is) (t .free-is) (getD (begun b .kinds) 0 false))
           (cut th) (omega (arith, w .0 .taken)) _ _ _ _ _ (e .1 .0) (e .1 .1) (g .0 .0 ∙ e .0) (g .0 .1) (g .0 .2) (g .0 .3) _
           (g .1 ∙ ap (λ k. set (replicate 256 0) 0 (groupField k (first b - 1))) (sym (series th)))))
           (λ w.
@@ -270,7 +270,7 @@ array-read-series c =
 
 split-as-requires : tie.Need-split-as-requires Inv-loop μ-loop
 split-as-requires c κs =
-    let z = c .before .before .before .before in
+    let z = c .before .before .before .before .before in
     let l = turn z .loop in
     ((λ v q. omega (arith, ok z .small v q, few z)), (l .inv .0 .partial, l .inv .1))
 
@@ -279,16 +279,16 @@ no-shape-requires c κs = tt
 
 returns : tie.Need-returns Inv-loop μ-loop
 returns c =
-    let z = c .before .before .before .before .before .before .before in
+    let z = c .before .before .before .before .before .before .before .before in
     let t = turn z .loop .inv .0 in
     let joined = cut-joined (c .before .before .split-as .ensures .0) (omega (arith, ok z .fits, few z)) (c .before .if4 .taken) (ok z .some) in
-    let none = no-tree _ _ (t .strict) (stuck _ (t .few) _ _ _ _ (t .strict) (t .turned) (t .tied-is) (t .free-is) _ (ok z)
-    (λ e. c .before .before .before .before .before .before .if3 .left (sized z ∙ e)) joined) in
+    let none = no-tree _ _ (t .strict) (stuck _ (t .few) _ _ _ _ (t .strict) (λ u v. refl) (t .tied-is) (t .free-is) _ (ok z)
+    (λ e. c .before .before .before .before .before .before .before .if3 .left (sized z ∙ e)) joined) in
     c .no-shape .ensures ∙ ap shape (sym none) ∙ same-shape (begin z)
 
 spread-requires-2 : tie.Need-spread-requires-2 Inv-loop μ-loop
 spread-requires-2 c κs =
-    let z = c .before .before .before .before .before .before .before .before .before .before .before in
+    let z = c .before .before .before .before .before .before .before .before .before .before .before .before in
     let l = turn z .loop in
     let x = c .before .before .before .before .before .before .split-as .ensures .0 in (
       (omega (arith, x .few, fits z .0, few z), omega (arith, x .few, fits z .0, few z), omega (arith, fits z .0, few z, ok z .some)),
@@ -297,19 +297,19 @@ spread-requires-2 c κs =
 
 put-group-requires-2 : tie.Need-put-group-requires-2 Inv-loop μ-loop
 put-group-requires-2 c κs =
-    let z = c .before .before .before .before .before .before .before .before .before .before .before .before .before in
+    let z = c .before .before .before .before .before .before .before .before .before .before .before .before .before .before in
     let x = c .before .before .before .before .before .before .before .before .split-as .ensures .0 in
     let two = c .before .before .before .before .before .before .before .if4 .left in
     (omega (arith, two), omega (arith, x .few, fits z .0, few z), omega (arith, fits z .1), omega (arith, fits z .3))
 
 loop-less-2 : tie.Need-loop-less-2 Inv-loop μ-loop
 loop-less-2 c =
-    let z = c .before .before .before .before .before .before .before .before .before .before .before .before .before .before in
+    let z = c .before .before .before .before .before .before .before .before .before .before .before .before .before .before .before in
     omega (arith, fits z .1, c .put-group2 .ensures .0 .1)
 
 loop-again-2 : tie.Need-loop-again-2 Inv-loop μ-loop
 loop-again-2 c =
-    let z = c .before .before .before .before .before .before .before .before .before .before .before .before .before .before in
+    let z = c .before .before .before .before .before .before .before .before .before .before .before .before .before .before .before in
     let l = turn z .loop in
     let t = l .inv .0 in
     let x = c .before .before .before .before .before .before .before .before .before .split-as .ensures .0 in
@@ -318,8 +318,8 @@ loop-again-2 c =
     let g = c .put-group2 .ensures in (
       t,
       (x .size, c .before .before .before .before .before .before .before .before .before .split-as .ensures .1 .size),
-      group-cut _ (t .few) _ _ _ _ _ (l .inv .2) (top z) (up z) _ (t .strict) (t .turned)
-          (alike _ (t .few) _ _ _ _ (t .strict) (t .turned) (t .tied-is) (t .free-is) (getD (l .kinds) (top z) false))
+      group-cut _ (t .few) _ _ _ _ _ (l .inv .2) (top z) (up z) _ (t .strict) (λ u v. refl)
+          (alike _ (t .few) _ _ _ _ (t .strict) (λ u v. refl) (t .tied-is) (t .free-is) (getD (l .kinds) (top z) false))
           x two _ _ _ _ _ (e .1 .0) (e .1 .1) (g .0 .0 ∙ e .0) (g .0 .1) (g .0 .2) (g .0 .3) _ (g .1),
     )
 
