@@ -1,24 +1,23 @@
 -- The entries of the stack: what is known of each, and how a group's parts become entries.
-use Prim.Native.Nat.{ℕ, zero, suc, _+_, _*_, _-_, _≤_, _<_}
+use Prim.Native.Nat.{ℕ, zero, suc, _+_, _-_, _≤_, _<_}
 use mathlib.Core.Path.{_≡_, refl, sym, ap, ap₂, subst, _∙_}
 use mathlib.Core.List.{List, [], _∷_, _++_, map, List·Memᴰ, List·Memᴰ·head, List·Memᴰ·tail}
-use mathlib.Core.Bool.{Bool, true, false, _&&_, _||_, not, Bool·not-not}
-use mathlib.Core.Logic.{_⊎_, inl, inr, ⊎-elim}
+use mathlib.Core.Bool.{Bool, true, false, _&&_, not, Bool·not-not}
+use mathlib.Core.Logic.{_⊎_, inl, inr}
 use native.Mathlib.Omega.{arith}
 use lib.ListN.{length}
-use Rattle.poset.specs.Lists.{below, keep}
+use Rattle.poset.specs.Lists.{below}
 use Rattle.poset.specs.Order.{Rel}
-use Rattle.poset.specs.Tree.{Kind, series, parallel}
-use Rattle.poset.proofs.Laws.{decided, clash, false-unless, and-left, and-right, and-intro, not-true, not-false}
+use Rattle.poset.specs.Tree.{series, parallel}
+use Rattle.poset.proofs.Laws.{decided, and-left}
 use Rattle.poset.proofs.Sums.{length-keep, bit, sum, sum-add}
 use Rattle.relation.specs.Table.{has, members}
 use Rattle.record.specs.Layout.{kindBit}
 use Rattle.writer.specs.Parts.{Walk, Splits, closeOf}
-use Rattle.writer.specs.Stack.{Entry, entries, jobsOf, startAt, spreadOut, setsOf, Absent, Apart, groupField}
+use Rattle.writer.specs.Stack.{Entry, entries, jobsOf, startAt, spreadOut, groupField}
 use Rattle.writer.specs.Tokens.{groupToken}
 use Rattle.writer.proofs.Worklist.{Pending, spread, total}
 use Rattle.writer.proofs.Groups.{kindOf, members-of}
-use Rattle.writer.proofs.Leads.{absent-append}
 
 -- a set whose jobs are all joined to one of them
 abbrev pub JoinedBy : Rel → List ℕ → Type 0
@@ -39,6 +38,9 @@ pub every-append : (n : ℕ) (tied free : Rel) (es fs : List Entry) → Every n 
 every-append n tied free [] fs x y = y
 every-append n tied free (e ∷ es) fs x y = (x .0, every-append n tied free es fs (x .1) y)
 
+abbrev pub setsOf : List Entry → List (List ℕ)
+setsOf es = map (λ (e : Entry). e .set) es
+
 pub jobs-append : (es fs : List Entry) → jobsOf (setsOf (es ++ fs)) ≡ jobsOf (setsOf es) + jobsOf (setsOf fs)
 jobs-append [] fs = omega arith
 jobs-append (e ∷ es) fs = omega (arith, jobs-append es fs)
@@ -48,11 +50,11 @@ jobs-spread flag start whole [] = refl
 jobs-spread flag start whole (p ∷ ps) = ap (λ k. length (members p) + k) (jobs-spread flag start whole ps)
 
 -- at least one job each
-pub entries-few : (n : ℕ) (tied free : Rel) (stack : List (List ℕ)) (numbers : List ℕ) (kinds : List Bool) (h : ℕ)
-    → Every n tied free (entries stack numbers kinds h) → h ≤ jobsOf (setsOf (entries stack numbers kinds h))
+pub entries-few : (n : ℕ) (tied free : Rel) (stack : List (List ℕ)) (starts : List ℕ) (kinds : List Bool) (h : ℕ)
+    → Every n tied free (entries stack starts kinds h) → h ≤ jobsOf (setsOf (entries stack starts kinds h))
 unfolding entries
-entries-few n tied free stack numbers kinds zero x = omega arith
-entries-few n tied free stack numbers kinds (suc h) x = omega (arith, x .0 .some, entries-few n tied free stack numbers kinds h (x .1))
+entries-few n tied free stack starts kinds zero x = omega arith
+entries-few n tied free stack starts kinds (suc h) x = omega (arith, x .0 .some, entries-few n tied free stack starts kinds h (x .1))
 
 -- entries as pending blocks
 abbrev pub toPending : Entry → Pending
@@ -134,29 +136,6 @@ splits-jobs close under flag (p ∷ ps) s (x, rest, at, part, f, h) =
 mem-length : {y : ℕ} {xs : List ℕ} → List·Memᴰ y xs → 0 < length xs
 mem-length (List·Memᴰ·head e) = omega arith
 mem-length (List·Memᴰ·tail m) = omega arith
-
--- have no job in common, nor one that their set does not have
-splits-absent : (close under : Rel) (flag : Bool) (ps : List (List ℕ)) (s : List ℕ) → Splits close under flag s ps → (v : ℕ) → has s v ≡ false → Absent v ps
-splits-absent close under flag [] s h v out = tt
-splits-absent close under flag (p ∷ ps) s (x, rest, at, part, f, h) v out = (
-  false-unless (has p v) (λ q. clash (part .within v q) out),
-  splits-absent close under flag ps rest h v (f v ∙ ap (λ b. b && not (has p v)) out),
-)
-
-pub splits-apart : (close under : Rel) (flag : Bool) (ps : List (List ℕ)) (s : List ℕ) (others : List (List ℕ)) → ((v : ℕ) → has s v ≡ true → v < 128)
-    → Splits close under flag s ps → ((v : ℕ) → has s v ≡ true → Absent v others) → Apart others → Apart (ps ++ others)
-splits-apart close under flag [] s others small h out apart = apart
-splits-apart close under flag (p ∷ ps) s others small (x, rest, at, part, f, h) out apart = (
-  mem-length (members-of p x (small x (part .within x (part .own))) (part .own)),
-  (λ v q. absent-append v ps others (splits-absent close under flag ps rest h v (gone v q)) (out v (part .within v q))),
-  splits-apart close under flag ps rest others (λ v q. small v (inside v q)) h (λ v q. out v (inside v q)) apart,
-)
-  where
-    inside : (v : ℕ) → has rest v ≡ true → has s v ≡ true
-    inside v q = and-left (has s v) (not (has p v)) (sym (f v) ∙ q)
-
-    gone : (v : ℕ) → has p v ≡ true → has rest v ≡ false
-    gone v q = false-unless (has rest v) (λ r. clash q (not-true (has p v) (and-right (has s v) (not (has p v)) (sym (f v) ∙ r))))
 
 -- and are entries of the group
 pub splits-every : (n : ℕ) (tied free under : Rel) (flag : Bool) (start whole : ℕ) → start + whole ≤ n → (ps : List (List ℕ)) (s : List ℕ)

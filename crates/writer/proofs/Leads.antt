@@ -1,17 +1,17 @@
--- The smallest job of a set, and sets with no job in common.
-use Prim.Native.Nat.{ℕ, zero, suc, _<_}
+-- The smallest job of a set.
+use Prim.Native.Nat.{ℕ, _<_}
 use mathlib.Core.Path.{_≡_, refl, sym, ap, subst, _∙_}
-use mathlib.Core.List.{List, [], _∷_, _++_, List·Memᴰ, List·Memᴰ·head, List·Memᴰ·tail}
-use mathlib.Core.Bool.{Bool, true, false}
+use mathlib.Core.List.{List, [], _∷_, List·Memᴰ, List·Memᴰ·head, List·Memᴰ·tail}
+use mathlib.Core.Bool.{true}
 use mathlib.Core.Logic.{⊎-elim}
 use native.Mathlib.Omega.{arith}
-use lib.ListN.{length, drop, getD}
-use Rattle.poset.specs.Lists.{exists, below, keep}
+use lib.ListN.{length, getD}
+use Rattle.poset.specs.Lists.{exists, below}
 use Rattle.poset.proofs.Laws.{decided, clash, any-miss}
 use Rattle.poset.proofs.Components.{Of, Sorted}
 use Rattle.relation.specs.Table.{has, members, Least}
 use Rattle.relation.proofs.Lists.{keep-none}
-use Rattle.writer.specs.Stack.{Entry, lead, setsOf, Absent, Apart, spreadOut}
+use Rattle.writer.specs.Stack.{lead}
 use Rattle.writer.proofs.Groups.{members-sorted, of-members, members-of}
 
 pub some-any : (s : List ℕ) → 0 < length (members s) → exists (has s) (below 128) ≡ true
@@ -56,20 +56,3 @@ module _ (s : List ℕ) where
       go [] e = absurd (omega (arith, one, ap length e))
       go (x ∷ []) e = e ∙ ap (λ y. y ∷ []) (sym (ap (λ l. getD l 0 0) e))
       go (x ∷ y ∷ ys) e = absurd (omega (arith, one, ap length e))
-
-pub absent-append : (v : ℕ) (xs ys : List (List ℕ)) → Absent v xs → Absent v ys → Absent v (xs ++ ys)
-absent-append v [] ys p q = q
-absent-append v (x ∷ xs) ys p q = (p .0, absent-append v xs ys (p .1) q)
-
-pub apart-drop : (i : ℕ) (xs ys : List (List ℕ)) → Apart (xs ++ ys) → Apart (drop i xs ++ ys)
-apart-drop zero xs ys h = h
-apart-drop (suc i) [] ys h = h
-apart-drop (suc i) (x ∷ xs) ys h = apart-drop i xs ys (h .2)
-
-pub sets-append : (es fs : List Entry) → setsOf (es ++ fs) ≡ setsOf es ++ setsOf fs
-sets-append [] fs = refl
-sets-append (e ∷ es) fs = ap (λ l. e .set ∷ l) (sets-append es fs)
-
-pub sets-spread : (flag : Bool) (start whole : ℕ) (ps : List (List ℕ)) → setsOf (spreadOut flag start whole ps) ≡ ps
-sets-spread flag start whole [] = refl
-sets-spread flag start whole (p ∷ ps) = ap (λ l. p ∷ l) (sets-spread flag start whole ps)

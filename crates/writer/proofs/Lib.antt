@@ -8,6 +8,7 @@ pub mod Searching
 pub mod Counting
 pub mod Firsts
 pub mod Splitting
+pub mod Numbering
 pub mod Groups
 pub mod Leads
 pub mod Stacking

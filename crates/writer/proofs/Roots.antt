@@ -198,32 +198,30 @@ under-partial n r under strict inside turned =
           turned u w ∙ strict .transitive w v u (inside w v b .0) (inside w v b .1) (inside v u a .1) b a;
     }
 
--- an order as the tables that the loop reads
-pub record Tables (n : ℕ) (r under tied free : Rel) : Type 0 where
-  pub few : n ≤ 128
-  pub strict : Strict n r
-  pub turned : (u v : ℕ) → under u v ≡ r v u
-  pub partial : Partial under
-  pub tied-is : Alike n r tied false
-  pub free-is : Alike n r free true
+-- The loop reads the order turned round, and which jobs are comparable and which are not.
 
--- The loop reads the order in the table that holds it turned round alone.
 abbrev pub transpose : Rel → Rel
 transpose r u v = r v u
+
+pub record Tables (n : ℕ) (under tied free : Rel) : Type 0 where
+  pub few : n ≤ 128
+  pub strict : Strict n (transpose under)
+  pub partial : Partial under
+  pub tied-is : Alike n (transpose under) tied false
+  pub free-is : Alike n (transpose under) free true
 
 pub transpose-is : (r under : Rel) → ((u v : ℕ) → under u v ≡ r v u) → transpose under ≡ r
 transpose-is r under turned = fun-ext λ u. fun-ext λ v. turned v u
 
 pub tables : (n : ℕ) (r under tied free : Rel) → n ≤ 128 → Strict n r → ((u v : ℕ) → r u v ≡ true → (u < n) × (v < n))
     → ((u v : ℕ) → under u v ≡ r v u) → ((u v : ℕ) → u < n → tied u v ≡ (r u v || under u v))
-    → ((u v : ℕ) → u < n → free u v ≡ (ltb v n && (not (eqb u v) && not (r u v || under u v)))) → Tables n (transpose under) under tied free
+    → ((u v : ℕ) → u < n → free u v ≡ (ltb v n && (not (eqb u v) && not (r u v || under u v)))) → Tables n under tied free
 tables n r under tied free few strict inside turned t f =
-    subst (λ q. Tables n q under tied free) (sym (transpose-is r under turned))
-    (record {
+    let same = sym (transpose-is r under turned) in
+    record {
       few = few;
-      strict = strict;
-      turned = turned;
+      strict = subst (Strict n) same strict;
       partial = under-partial n r under strict inside turned;
-      tied-is = tied-alike n r tied under turned t;
-      free-is = free-alike n r free under turned f;
-    })
+      tied-is = subst (λ q. Alike n q tied false) same (tied-alike n r tied under turned t);
+      free-is = subst (λ q. Alike n q free true) same (free-alike n r free under turned f);
+    }

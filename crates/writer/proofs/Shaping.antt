@@ -1,6 +1,6 @@
 -- The loop that writes a tree: what holds at each turn, and at its ends.
 use Prim.Native.Nat.{ℕ, zero, suc, _+_, _-_, _≤_, _<_}
-use mathlib.Core.Path.{_≡_, refl, sym, ap, subst, _∙_}
+use mathlib.Core.Path.{_≡_, sym, ap, subst, _∙_}
 use mathlib.Core.List.{List, [], _∷_, _++_, map}
 use mathlib.Core.Bool.{Bool, true, false}
 use mathlib.Core.Option.{none, some}
@@ -20,36 +20,35 @@ use Rattle.poset.proofs.Theorems.{tree-of-means, tree-of-sound, tree-has-no-n}
 use Rattle.relation.specs.Table.{has, members}
 use Rattle.writer.specs.declared.tree.Progress.{Progress}
 use Rattle.writer.specs.Parts.{Splits, Cut, closeOf}
-use Rattle.writer.specs.Stack.{Entry, Stacks, entries, entryAt, jobsOf, spreadOut, opened, Opens, lead, setsOf, Apart, groupField}
+use Rattle.writer.specs.Stack.{Entry, Stacks, entries, entryAt, jobsOf, spreadOut, opened, Opens, groupField}
 use Rattle.writer.specs.Tokens.{groupToken, tokens, shape, shaped}
 use Rattle.writer.proofs.Stores.{stored, blank-stored, whole-list}
 use Rattle.writer.proofs.Worklist.{Todo, spread, todo-leaf, todo-group, todo-none, todo-all, GroupOf}
 use Rattle.writer.proofs.Groups.{kindOf, Alike, splits-group}
-use Rattle.writer.proofs.Leads.{sets-append, sets-spread}
-use Rattle.writer.proofs.Stacking.{entry-same}
+use Rattle.writer.proofs.Stacking.{entry-same, stacks-lower}
 use Rattle.writer.proofs.Roots.{cut-count, cut-jobs}
 use Rattle.writer.proofs.Entries.{EntryOk, Every, every-append, jobs-append, jobs-spread, entries-few, toPending, pend}
-use Rattle.writer.proofs.Entries.{pend-append, pend-spread, field-token, splits-jobs, splits-apart, splits-every}
+use Rattle.writer.proofs.Entries.{pend-append, pend-spread, field-token, splits-jobs, splits-every, setsOf}
 
 -- the arrays that are written
 pub record Arrays : Type 0 where
   pub stack : List (List ℕ)
-  pub numbers : List ℕ
+  pub starts : List ℕ
   pub kinds : List Bool
+  pub sizes : List ℕ
   pub fields : List ℕ
   pub forward : List ℕ
   pub reverse : List ℕ
 
 abbrev pub entriesOf : Arrays → Progress → List Entry
-entriesOf a p = entries (a .stack) (a .numbers) (a .kinds) (p .height)
+entriesOf a p = entries (a .stack) (a .starts) (a .kinds) (p .height)
 
 pub record Shaping (n : ℕ) (r tied free : Rel) (a : Arrays) (p : Progress) : Type 0 where
-  pub stacks : Stacks (a .stack) (a .numbers) (a .kinds)
+  pub stacks : Stacks (a .stack) (a .starts) (a .kinds) (a .sizes) (p .height)
   pub fields-size : length (a .fields) ≡ 256
   pub forward-size : length (a .forward) ≡ 128
   pub reverse-size : length (a .reverse) ≡ 128
   pub every : Every n tied free (entriesOf a p)
-  pub apart : Apart (setsOf (entriesOf a p))
   pub whole : p .placed + jobsOf (setsOf (entriesOf a p)) ≡ n
   pub groups-few : p .groups + 1 ≤ p .placed + p .height
   pub count-is : p .count ≡ p .placed + p .groups
@@ -60,23 +59,23 @@ pub record Shaping (n : ℕ) (r tied free : Rel) (a : Arrays) (p : Progress) : T
 
 -- an entry has a job at least
 pub height-few : (n : ℕ) (r tied free : Rel) (a : Arrays) (p : Progress) → Shaping n r tied free a p → p .height ≤ n
-height-few n r tied free a p x = omega (arith, entries-few n tied free (a .stack) (a .numbers) (a .kinds) (p .height) (x .every), x .whole)
+height-few n r tied free a p x = omega (arith, entries-few n tied free (a .stack) (a .starts) (a .kinds) (p .height) (x .every), x .whole)
 
 turn {ℓ} : {A : Type ℓ} {x y : A} → x ≡ y → (P : A → Type 0) → P x → P y
 turn e P h = subst P e h
 
 -- the top entry
 top-entry : (a : Arrays) (h top : ℕ) → h ≡ suc top
-    → entries (a .stack) (a .numbers) (a .kinds) h ≡ entryAt (a .stack) (a .numbers) (a .kinds) top ∷ entries (a .stack) (a .numbers) (a .kinds) top
+    → entries (a .stack) (a .starts) (a .kinds) h ≡ entryAt (a .stack) (a .starts) (a .kinds) top ∷ entries (a .stack) (a .starts) (a .kinds) top
 unfolding entries
-top-entry a h top e = ap (entries (a .stack) (a .numbers) (a .kinds)) e
+top-entry a h top e = ap (entries (a .stack) (a .starts) (a .kinds)) e
 
 module _ (n : ℕ) (few : n ≤ 128) (r tied free : Rel) (a : Arrays) (p : Progress) (x : Shaping n r tied free a p) (top : ℕ) (h : p .height ≡ suc top) where
   abbrev top-of : Entry
-  top-of = entryAt (a .stack) (a .numbers) (a .kinds) top
+  top-of = entryAt (a .stack) (a .starts) (a .kinds) top
 
   abbrev others : List Entry
-  others = entries (a .stack) (a .numbers) (a .kinds) top
+  others = entries (a .stack) (a .starts) (a .kinds) top
 
   all-entries : entriesOf a p ≡ top-of ∷ others
   all-entries = top-entry a (p .height) top h
@@ -84,14 +83,11 @@ module _ (n : ℕ) (few : n ≤ 128) (r tied free : Rel) (a : Arrays) (p : Progr
   pub top-ok : EntryOk n tied free top-of × Every n tied free others
   top-ok = subst (Every n tied free) all-entries (x .every)
 
-  top-apart : Apart (setsOf (top-of ∷ others))
-  top-apart = subst (λ es. Apart (setsOf es)) all-entries (x .apart)
-
   jobs-left : p .placed + (length (members (top-of .set)) + jobsOf (setsOf others)) ≡ n
   jobs-left = ap (λ es. p .placed + jobsOf (setsOf es)) (sym all-entries) ∙ x .whole
 
   pub top-few : top ≤ jobsOf (setsOf others)
-  top-few = entries-few n tied free (a .stack) (a .numbers) (a .kinds) top (top-ok .1)
+  top-few = entries-few n tied free (a .stack) (a .starts) (a .kinds) top (top-ok .1)
 
   pub room : (top + length (members (top-of .set)) ≤ n) × (p .count < 255) × (p .placed < n) × (p .groups < 255)
   room =
@@ -109,8 +105,9 @@ module _ (n : ℕ) (few : n ≤ 128) (r tied free : Rel) (a : Arrays) (p : Progr
       → Shaping n r tied free
       (record {
         stack = a .stack;
-        numbers = a .numbers;
+        starts = a .starts;
         kinds = a .kinds;
+        sizes = a .sizes;
         fields = set (a .fields) (p .count) j;
         forward = set (a .forward) (p .placed) j;
         reverse = set (a .reverse) (top-of .start) j;
@@ -119,14 +116,13 @@ module _ (n : ℕ) (few : n ≤ 128) (r tied free : Rel) (a : Arrays) (p : Progr
   leaf-next j one irr q qh qc qg qp =
       let same : q .height ≡ top = omega (arith, qh, h) in
       let rm = room in
-      let es : entries (a .stack) (a .numbers) (a .kinds) (q .height) ≡ others = ap (entries (a .stack) (a .numbers) (a .kinds)) same in
+      let es : entries (a .stack) (a .starts) (a .kinds) (q .height) ≡ others = ap (entries (a .stack) (a .starts) (a .kinds)) same in
       record {
-        stacks = x .stacks;
+        stacks = stacks-lower (a .stack) (a .starts) (a .kinds) (a .sizes) (p .height) (q .height) (omega (arith, qh)) (x .stacks);
         fields-size = length-set (a .fields) (p .count) j ∙ x .fields-size;
         forward-size = length-set (a .forward) (p .placed) j ∙ x .forward-size;
         reverse-size = length-set (a .reverse) (top-of .start) j ∙ x .reverse-size;
         every = subst (Every n tied free) (sym es) (top-ok .1);
-        apart = subst (λ l. Apart (setsOf l)) (sym es) (top-apart .2);
         whole = omega (arith, ap (λ l. jobsOf (setsOf l)) es, jobs-left, ap length one, qp);
         groups-few = omega (arith, x .groups-few, qg, qp, qh);
         count-is = omega (arith, x .count-is, qc, qg, qp);
@@ -153,11 +149,11 @@ module _ (n : ℕ) (few : n ≤ 128) (r tied free : Rel) (a : Arrays) (p : Progr
       → q .groups ≡ p .groups → q .placed ≡ p .placed + 1 → (fields forward reverse : List ℕ) → fields ≡ set (a .fields) (p .count) j
       → forward ≡ set (a .forward) (p .placed) j → reverse ≡ set (a .reverse) (top-of .start) j
       → Shaping n r tied free
-      (record { stack = a .stack; numbers = a .numbers; kinds = a .kinds; fields = fields; forward = forward; reverse = reverse })
+      (record { stack = a .stack; starts = a .starts; kinds = a .kinds; sizes = a .sizes; fields = fields; forward = forward; reverse = reverse })
       q
   leaf-turn j one irr q qh qc qg qp fields forward reverse ef eo er =
       let b : List ℕ → List ℕ → List ℕ → Arrays =
-      λ f o v. record { stack = a .stack; numbers = a .numbers; kinds = a .kinds; fields = f; forward = o; reverse = v } in
+      λ f o v. record { stack = a .stack; starts = a .starts; kinds = a .kinds; sizes = a .sizes; fields = f; forward = o; reverse = v } in
       turn (sym ef) (λ f. Shaping n r tied free (b f forward reverse) q)
       (turn (sym eo) (λ o. Shaping n r tied free (b (set (a .fields) (p .count) j) o reverse) q)
       (turn (sym er) (λ v. Shaping n r tied free (b (set (a .fields) (p .count) j) (set (a .forward) (p .placed) j) v) q)
@@ -169,11 +165,6 @@ module _ (n : ℕ) (few : n ≤ 128) (r tied free : Rel) (a : Arrays) (p : Progr
       (split : Splits (closeOf (top-of .series) tied free) under (top-of .series) (top-of .set) parts) (two : 2 ≤ length parts) where
     jobs-same : jobsOf parts ≡ length (members (top-of .set))
     jobs-same = splits-jobs (closeOf (top-of .series) tied free) under (top-of .series) parts (top-of .set) split
-
-    parts-apart : Apart (parts ++ setsOf others)
-    parts-apart =
-        splits-apart (closeOf (top-of .series) tied free) under (top-of .series) parts (top-of .set) (setsOf others)
-        (λ v q. omega (arith, top-ok .0 .small v q)) split (top-apart .1) (top-apart .2)
 
     abbrev size : ℕ
     size = length (members (top-of .set))
@@ -197,20 +188,22 @@ module _ (n : ℕ) (few : n ≤ 128) (r tied free : Rel) (a : Arrays) (p : Progr
         (todo-group n r (kindOf (top-of .series)) (take (p .count) (a .fields)) (take (p .placed) (a .forward)) (a .reverse) (p .groups) (top-of .start)
         (members (top-of .set)) (members b) (members c) (map members ps) (pend others) g todo-here)
 
-    pub group-next : (stack : List (List ℕ)) (numbers : List ℕ) (kinds : List Bool) (q : Progress) → Stacks stack numbers kinds
-        → entries stack numbers kinds (q .height) ≡ spreadOut (top-of .series) (top-of .start) size parts ++ others → q .height ≡ top + length parts
+    pub group-next : (stack : List (List ℕ)) (starts : List ℕ) (kinds : List Bool) (sizes : List ℕ) (q : Progress)
+        → Stacks stack starts kinds sizes (q .height)
+        → entries stack starts kinds (q .height) ≡ spreadOut (top-of .series) (top-of .start) size parts ++ others → q .height ≡ top + length parts
         → q .count ≡ p .count + 1 → q .groups ≡ p .groups + 1 → q .placed ≡ p .placed
         → Shaping n r tied free
         (record {
           stack = stack;
-          numbers = numbers;
+          starts = starts;
           kinds = kinds;
+          sizes = sizes;
           fields = set (a .fields) (p .count) (groupField (top-of .series) (length parts - 1));
           forward = a .forward;
           reverse = a .reverse;
         })
         q
-    group-next stack numbers kinds q z es qh qc qg qp =
+    group-next stack starts kinds sizes q z es qh qc qg qp =
         let field = groupField (top-of .series) (length parts - 1) in
         let rm = room in
         record {
@@ -224,13 +217,6 @@ module _ (n : ℕ) (few : n ≤ 128) (r tied free : Rel) (a : Arrays) (p : Progr
               (splits-every n tied free under (top-of .series) (top-of .start) size (top-ok .0 .fits) parts (top-of .set) (top-ok .0 .small) few split
               (omega (arith, jobs-same)))
               (top-ok .1));
-          apart =
-              subst (λ l. Apart (setsOf l)) (sym es)
-              (subst Apart
-              (sym
-              (sets-append (spreadOut (top-of .series) (top-of .start) size parts) others
-              ∙ ap (λ l. l ++ setsOf others) (sets-spread (top-of .series) (top-of .start) size parts)))
-              parts-apart);
           whole =
               omega (
                 arith,
@@ -269,69 +255,61 @@ module _ (n : ℕ) (few : n ≤ 128) (r tied free : Rel) (a : Arrays) (p : Progr
               (todo-parts parts two group-here)))));
         }
 
-    group-turn : (stack : List (List ℕ)) (numbers : List ℕ) (kinds : List Bool) (q : Progress) → Stacks stack numbers kinds
-        → entries stack numbers kinds (q .height) ≡ spreadOut (top-of .series) (top-of .start) size parts ++ others → q .height ≡ top + length parts
+    group-turn : (stack : List (List ℕ)) (starts : List ℕ) (kinds : List Bool) (sizes : List ℕ) (q : Progress)
+        → Stacks stack starts kinds sizes (q .height)
+        → entries stack starts kinds (q .height) ≡ spreadOut (top-of .series) (top-of .start) size parts ++ others → q .height ≡ top + length parts
         → q .count ≡ p .count + 1 → q .groups ≡ p .groups + 1 → q .placed ≡ p .placed → (fields : List ℕ)
         → fields ≡ set (a .fields) (p .count) (groupField (top-of .series) (length parts - 1))
         → Shaping n r tied free
-        (record { stack = stack; numbers = numbers; kinds = kinds; fields = fields; forward = a .forward; reverse = a .reverse })
+        (record { stack = stack; starts = starts; kinds = kinds; sizes = sizes; fields = fields; forward = a .forward; reverse = a .reverse })
         q
-    group-turn stack numbers kinds q z es qh qc qg qp fields ef =
+    group-turn stack starts kinds sizes q z es qh qc qg qp fields ef =
         turn (sym ef)
-        (λ f. Shaping n r tied free (record { stack = stack; numbers = numbers; kinds = kinds; fields = f; forward = a .forward; reverse = a .reverse }) q)
-        (group-next stack numbers kinds q z es qh qc qg qp)
+        (λ f. Shaping n r tied free
+        (record { stack = stack; starts = starts; kinds = kinds; sizes = sizes; fields = f; forward = a .forward; reverse = a .reverse })
+        q)
+        (group-next stack starts kinds sizes q z es qh qc qg qp)
 
   -- the parts may take the place of the top entry
   pub opens : (under : Rel) {parts : List (List ℕ)} {count : ℕ} → Cut (closeOf (top-of .series) tied free) under (top-of .series) (top-of .set) parts count
-      → Opens top-of others (take count parts)
-  opens under {parts = parts} {count = count} cut =
-      record {
-        some = top-ok .0 .some;
-        fits = omega (arith, top-ok .0 .fits);
-        jobs = cut-jobs cut;
-        apart =
-            splits-apart (closeOf (top-of .series) tied free) under (top-of .series) (take count parts) (top-of .set) (setsOf others)
-            (λ v q. omega (arith, top-ok .0 .small v q)) (cut .these) (top-apart .1) (top-apart .2);
-      }
+      → Opens top-of (take count parts)
+  opens under cut = record { fits = omega (arith, top-ok .0 .fits); jobs = cut-jobs cut }
 
   pub group-cut : (under : Rel) → Strict n r → ((u v : ℕ) → under u v ≡ r v u) → Alike n r (closeOf (top-of .series) tied free) (top-of .series)
       → {parts : List (List ℕ)} {count : ℕ} → Cut (closeOf (top-of .series) tied free) under (top-of .series) (top-of .set) parts count → 2 ≤ count
-      → (stack : List (List ℕ)) (numbers : List ℕ) (kinds : List Bool) (q : Progress) → Stacks stack numbers kinds
-      → entries stack numbers kinds (top + count) ≡ opened top-of (take count parts) ++ others → q .height ≡ top + count
+      → (stack : List (List ℕ)) (starts : List ℕ) (kinds : List Bool) (sizes : List ℕ) (q : Progress)
+      → Stacks stack starts kinds sizes (top + count)
+      → entries stack starts kinds (top + count) ≡ opened top-of (take count parts) ++ others → q .height ≡ top + count
       → q .count ≡ p .count + 1 → q .groups ≡ p .groups + 1 → q .placed ≡ p .placed → (fields : List ℕ)
       → fields ≡ set (a .fields) (p .count) (groupField (top-of .series) (count - 1))
       → Shaping n r tied free
-      (record { stack = stack; numbers = numbers; kinds = kinds; fields = fields; forward = a .forward; reverse = a .reverse })
+      (record { stack = stack; starts = starts; kinds = kinds; sizes = sizes; fields = fields; forward = a .forward; reverse = a .reverse })
       q
-  group-cut under strict turned alike {parts = parts} {count = count} cut two stack numbers kinds q z es qh qc qg qp fields ef =
+  group-cut under strict turned alike {parts = parts} {count = count} cut two stack starts kinds sizes q z es qh qc qg qp fields ef =
       let long : length (take count parts) ≡ count = cut-count cut (omega (arith, top-ok .0 .fits)) in
-      group-turn under strict turned alike (take count parts) (cut .these) (omega (arith, long)) stack numbers kinds q z
-      (ap (entries stack numbers kinds) qh ∙ es)
+      group-turn under strict turned alike (take count parts) (cut .these) (omega (arith, long)) stack starts kinds sizes q
+      (subst (Stacks stack starts kinds sizes) (sym qh) z) (ap (entries stack starts kinds) qh ∙ es)
       (omega (arith, long)) qc qg qp fields
       (ef ∙ ap (λ k. set (a .fields) (p .count) (groupField (top-of .series) (k - 1))) (sym long))
 
 -- all jobs on the stack: nothing is written
 pub shape-start : (n : ℕ) → n ≤ 128 → (r tied free : Rel) (all : List ℕ) (flag : Bool) → members all ≡ below n
-    → EntryOk n tied free (record { set = all; start = 0; series = flag }) → (a : Arrays) → Stacks (a .stack) (a .numbers) (a .kinds)
-    → getD (a .stack) 0 [] ≡ all → a .numbers ≡ replicate 128 0 → getD (a .kinds) 0 false ≡ flag → a .fields ≡ replicate 256 0
+    → EntryOk n tied free (record { set = all; start = 0; series = flag }) → (a : Arrays) → Stacks (a .stack) (a .starts) (a .kinds) (a .sizes) 1
+    → getD (a .stack) 0 [] ≡ all → getD (a .starts) 0 0 ≡ 0 → getD (a .kinds) 0 false ≡ flag → a .fields ≡ replicate 256 0
     → a .forward ≡ replicate 128 0 → a .reverse ≡ replicate 128 0 → (p : Progress) → p .height ≡ 1 → p .count ≡ 0 → p .groups ≡ 0 → p .placed ≡ 0
     → Shaping n r tied free a p
 unfolding entries
 shape-start n few r tied free all flag is-all ok a z at start kind fields forward reverse p ph pc pg pp =
     let top : Entry = record { set = all; start = 0; series = flag } in
-    let es : entriesOf a p ≡ top ∷ [] =
-    ap (entries (a .stack) (a .numbers) (a .kinds)) ph
-    ∙ ap (λ e. e ∷ [])
-    (entry-same at (ap (λ l. getD l (lead (getD (a .stack) 0 [])) 0) start ∙ getD-zeros 128 (lead (getD (a .stack) 0 []))) kind) in
+    let es : entriesOf a p ≡ top ∷ [] = ap (entries (a .stack) (a .starts) (a .kinds)) ph ∙ ap (λ e. e ∷ []) (entry-same at start kind) in
     let all-size : length (members all) ≡ n = ap length is-all ∙ length-below n in
     let long : length (a .reverse) ≡ 128 = ap length reverse ∙ length-replicate {A = ℕ} 128 0 in
     record {
-      stacks = z;
+      stacks = subst (Stacks (a .stack) (a .starts) (a .kinds) (a .sizes)) (sym ph) z;
       fields-size = ap length fields ∙ length-replicate {A = ℕ} 256 0;
       forward-size = ap length forward ∙ length-replicate {A = ℕ} 128 0;
       reverse-size = long;
       every = subst (Every n tied free) (sym es) (ok, tt);
-      apart = subst (λ l. Apart (setsOf l)) (sym es) (ok .some, (λ v q. tt), tt);
       whole = omega (arith, ap (λ l. jobsOf (setsOf l)) es, all-size, pp);
       groups-few = omega (arith, pg, pp, ph);
       count-is = omega (arith, pc, pg, pp);
@@ -347,11 +325,6 @@ shape-start n few r tied free all flag is-all ok a z at start kind fields forwar
           (todo-all n r (a .reverse) (omega (arith, long)))))));
     }
   where
-    getD-zeros : (m i : ℕ) → getD (replicate {A = ℕ} m 0) i 0 ≡ 0
-    getD-zeros zero i = refl
-    getD-zeros (suc m) zero = refl
-    getD-zeros (suc m) (suc i) = getD-zeros m i
-
     drop-replicate : (i m : ℕ) → drop {A = ℕ} i (replicate m 0) ≡ replicate (m - i) 0
     drop-replicate zero m = let e : m ≡ m - 0 = omega arith in ap (λ k. replicate {A = ℕ} k 0) e
     drop-replicate (suc i) zero = let e : 0 ≡ 0 - suc i = omega arith in ap (λ k. replicate {A = ℕ} k 0) e
@@ -364,7 +337,7 @@ pub shape-done : (n : ℕ) → n ≤ 128 → (r tied free : Rel) → Strict n r 
     → shaped p (a .fields) (a .forward) (a .reverse) ≡ shape (treeOf n r)
 unfolding entries
 shape-done n few r tied free strict a p x e =
-    let none : entriesOf a p ≡ [] = ap (entries (a .stack) (a .numbers) (a .kinds)) e in
+    let none : entriesOf a p ≡ [] = ap (entries (a .stack) (a .starts) (a .kinds)) e in
     let (t, tells, spelt, forward, reverse, number) =
     todo-none n r (take (p .count) (a .fields)) (take (p .placed) (a .forward)) (a .reverse) (p .groups)
     (subst (λ es. Todo n r (take (p .count) (a .fields)) (take (p .placed) (a .forward)) (a .reverse) (p .groups) (pend es)) none (x .todo)) in

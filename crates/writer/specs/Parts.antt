@@ -4,7 +4,7 @@ use Prim.Native.Nat.{ℕ, _≤_, _<_}
 use mathlib.Core.Path.{_≡_}
 use mathlib.Core.List.{List, [], _∷_}
 use mathlib.Core.Bool.{Bool, true, false, _&&_, not}
-use lib.ListN.{length, take}
+use lib.ListN.{length, take, getD}
 use Rattle.poset.specs.Order.{Rel}
 use Rattle.relation.specs.Table.{has, members, Least}
 
@@ -56,6 +56,18 @@ pub record Cut (near under : Rel) (series : Bool) (s : List ℕ) (parts : List (
   pub size : length parts ≡ 128
   pub few : count ≤ length (members s)
   pub these : Splits near under series s (take count parts)
+
+-- the jobs that p holds for have this number, the others what they had
+pub record Marked (p : ℕ → Bool) (number : ℕ) (numbers numbers′ : List ℕ) : Type 0 where
+  pub size : length numbers′ ≡ 128
+  pub here : (v : ℕ) → p v ≡ true → getD numbers′ v 0 ≡ number
+  pub others : (v : ℕ) → p v ≡ false → getD numbers′ v 0 ≡ getD numbers v 0
+
+-- each job of s has the number of the part that it fell to, the others what they had
+pub record Numbered (s : List ℕ) (parts : List (List ℕ)) (count : ℕ) (numbers numbers′ : List ℕ) : Type 0 where
+  pub size : length numbers′ ≡ 128
+  pub here : (i v : ℕ) → i < count → has (getD parts i []) v ≡ true → getD numbers′ v 0 ≡ i
+  pub others : (v : ℕ) → has s v ≡ false → getD numbers′ v 0 ≡ getD numbers v 0
 
 -- the relation that keeps jobs together in a part: of a series group the incomparable ones, of a parallel group the comparable ones
 abbrev pub closeOf : Bool → Rel → Rel → Rel

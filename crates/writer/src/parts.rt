@@ -5,13 +5,46 @@ ghost use mathlib.Core.Bool.{true};
 ghost use lib.ListN.{length};
 ghost use Rattle.relation.specs.Table.{has, holds};
 ghost use Rattle.poset.specs.Lists.{exists, below};
-ghost use Rattle.writer.specs.Parts.{Jobs, PartOf, Partial, First, StartsAt, Cut};
+ghost use Rattle.writer.specs.Parts.{Jobs, PartOf, Partial, First, StartsAt, Cut, Marked, Numbered};
 
-// The part of a set that x falls to: jobs that near joins stay together.
-fn part_of(near: &[[u64; 2]; 128], s: [u64; 2], x: usize) -> [u64; 2]
+// The number at each job of a set.
+fn mark_each(jobs: [u64; 2], number: u8, numbers: &mut [u8; 128])
+    requires { ⌜ Jobs jobs ⌝ }
+    requires { ⌜ length (now numbers) ≡ 128 ⌝ }
+    ensures { λ _. ⌜ Marked (has jobs) number (now (numbers .entry)) (now (numbers .exit)) ⌝ }
+{
+    let mut rest = jobs;
+    while set::inhabited(rest) {
+        let y = set::smallest(rest);
+        numbers[y] = number;
+        let others = set::without_smallest(rest);
+        rest = others;
+    }
+}
+
+// As mark_each, one word of the set after the other: in each run the other word is known to be 0.
+fn mark(part: [u64; 2], number: u8, numbers: &mut [u8; 128])
+    requires { ⌜ Jobs part ⌝ }
+    requires { ⌜ length (now numbers) ≡ 128 ⌝ }
+    ensures { λ _. ⌜ Marked (has part) number (now (numbers .entry)) (now (numbers .exit)) ⌝ }
+{
+    mark_each(set::low(part), number, numbers);
+    mark_each(set::high(part), number, numbers);
+}
+
+// The part of a set that x falls to: jobs that near joins stay together. Its jobs get the number.
+fn part_of(
+    near: &[[u64; 2]; 128],
+    s: [u64; 2],
+    x: usize,
+    number: u8,
+    numbers: &mut [u8; 128],
+) -> [u64; 2]
     requires { ⌜ Jobs s ⌝ }
     requires { ⌜ has s x ≡ true ⌝ }
+    requires { ⌜ length (now numbers) ≡ 128 ⌝ }
     ensures { λ r. ⌜ PartOf (holds (now (near .entry))) s x r ⌝ }
+    ensures { λ r. ⌜ Marked (has r) number (now (numbers .entry)) (now (numbers .exit)) ⌝ }
 {
     let mut todo = set::only(x);
     let mut rest = set::difference(s, todo);
@@ -20,6 +53,7 @@ fn part_of(near: &[[u64; 2]; 128], s: [u64; 2], x: usize) -> [u64; 2]
             return set::difference(s, rest);
         }
         let y = set::smallest(todo);
+        numbers[y] = number;
         let found = set::intersection(near[y], rest);
         let others = set::without_smallest(todo);
         let more = set::union(others, found);
@@ -27,6 +61,8 @@ fn part_of(near: &[[u64; 2]; 128], s: [u64; 2], x: usize) -> [u64; 2]
         todo = more;
         rest = fewer;
     }
+    // What was found and not gone through.
+    mark(todo, number, numbers);
     s
 }
 
@@ -63,24 +99,27 @@ fn start_of(under: &[[u64; 2]; 128], series: bool, s: [u64; 2]) -> usize
     }
 }
 
-// The parts of a set, one after another, and how many there are.
+// The parts of a set, one after another, and how many there are; each job of the set gets the number of its part.
 pub fn split(
     near: &[[u64; 2]; 128],
     under: &[[u64; 2]; 128],
     series: bool,
     s: [u64; 2],
     parts: &mut [[u64; 2]; 128],
+    numbers: &mut [u8; 128],
 ) -> usize
     requires { ⌜ Jobs s ⌝ }
     requires { ⌜ Partial (holds (now under)) ⌝ }
     requires { ⌜ length (now parts) ≡ 128 ⌝ }
+    requires { ⌜ length (now numbers) ≡ 128 ⌝ }
     ensures { λ r. ⌜ Cut (holds (now (near .entry))) (holds (now (under .entry))) series s (now (parts .exit)) r ⌝ }
+    ensures { λ r. ⌜ Numbered s (now (parts .exit)) r (now (numbers .entry)) (now (numbers .exit)) ⌝ }
 {
     let mut left = s;
     let mut count = 0;
     while set::inhabited(left) {
         let x = start_of(under, series, left);
-        let part = part_of(near, left, x);
+        let part = part_of(near, left, x, (count % 256) as u8, numbers);
         let fewer = set::difference(left, part);
         parts[count] = part;
         left = fewer;

@@ -6,14 +6,13 @@ ghost use mathlib.Core.Path.{_≡_};
 ghost use mathlib.Core.Bool.{true, false, _&&_, _||_, not};
 ghost use lib.Dec.{eqb, ltb};
 ghost use mathlib.Core.List.{_++_};
-ghost use lib.ListN.{length, take, set};
+ghost use lib.ListN.{length, take, getD, set};
 ghost use Rattle.relation.specs.Table.{members, holds, Inside};
 ghost use Rattle.poset.specs.Order.{Strict};
 ghost use Rattle.poset.specs.Decompose.{treeOf};
 ghost use Rattle.writer.specs.Tokens.{noShape, shape, shaped};
-ghost use Rattle.writer.specs.Parts.{Jobs, Partial, Cut, closeOf};
-ghost use Rattle.writer.specs.Stack.{entries, jobsOf, spreadOut, startAt, Stacks, groupField, lead, numberOf};
-ghost use Rattle.writer.specs.Stack.{entryAt, setsOf, Apart, Opens, opened, FirstEntry};
+ghost use Rattle.writer.specs.Parts.{Jobs, Partial, Cut, Numbered, closeOf};
+ghost use Rattle.writer.specs.Stack.{entries, jobsOf, spreadOut, startAt, Stacks, groupField, lead, entryAt, Opens, opened, FirstEntry};
 
 // A group: whether it is a series, where it begins in the reverse sequence, and how many jobs it has.
 pub struct Group {
@@ -22,27 +21,26 @@ pub struct Group {
     pub whole: usize,
 }
 
-// The parts of a group onto the stack, the first on top: each with the kind of group that it is to become, and with its component
-// number, where it begins in the reverse sequence, at its smallest job. A series goes from left to right there, a parallel group
-// from right to left.
+// The parts of a group onto the stack, the first on top: each with where it begins in the reverse sequence, the kind of group that
+// it is to become, and its size. A series goes from left to right in the reverse sequence, a parallel group from right to left.
 fn push(
     parts: &[[u64; 2]; 128],
     count: usize,
     g: Group,
     stack: &mut [[u64; 2]; 128],
-    numbers: &mut [usize; 128],
+    starts: &mut [usize; 128],
     kinds: &mut [bool; 128],
+    sizes: &mut [u8; 128],
     height: usize,
 ) -> usize
     requires { ⌜ (count ≤ 128) × (height + count ≤ 128) × (g .start + g .whole ≤ 128) ⌝ }
     requires { ⌜ (length (now parts) ≡ 128) × (jobsOf (take count (now parts)) ≡ g .whole) ⌝ }
-    requires { ⌜ Stacks (now stack) (now numbers) (now kinds) ⌝ }
-    requires { ⌜ Apart (take count (now parts) ++ setsOf (entries (now stack) (now numbers) (now kinds) height)) ⌝ }
+    requires { ⌜ Stacks (now stack) (now starts) (now kinds) (now sizes) height ⌝ }
     ensures { λ r. ⌜ r ≡ height + count ⌝ }
-    ensures { λ r. ⌜ Stacks (now (stack .exit)) (now (numbers .exit)) (now (kinds .exit)) ⌝ }
-    ensures { λ r. ⌜ entries (now (stack .exit)) (now (numbers .exit)) (now (kinds .exit)) (height + count)
+    ensures { λ r. ⌜ Stacks (now (stack .exit)) (now (starts .exit)) (now (kinds .exit)) (now (sizes .exit)) (height + count) ⌝ }
+    ensures { λ r. ⌜ entries (now (stack .exit)) (now (starts .exit)) (now (kinds .exit)) (height + count)
         ≡ spreadOut (g .series) (g .start) (g .whole) (take count (now (parts .entry)))
-        ++ entries (now (stack .entry)) (now (numbers .entry)) (now (kinds .entry)) height ⌝ }
+        ++ entries (now (stack .entry)) (now (starts .entry)) (now (kinds .entry)) height ⌝ }
 {
     let mut i = count;
     let mut top = height;
@@ -52,10 +50,10 @@ fn push(
         i -= 1;
         let part = parts[i];
         let size = set::size(part);
-        let job = set::smallest(part);
-        numbers[job] = start_of(g, later, size);
+        starts[top] = start_of(g, later, size);
         stack[top] = part;
         kinds[top] = !series;
+        sizes[top] = (size % 256) as u8;
         later += size;
         top += 1;
     }
@@ -87,27 +85,28 @@ fn put_leaf(
     fields: &mut [u16; 256],
     forward: &mut [u8; 128],
     reverse: &mut [u8; 128],
-    numbers: &[usize; 128],
+    starts: &[usize; 128],
     s: [u64; 2],
     p: Progress,
 ) -> Progress
-    requires { ⌜ (0 < length (members s)) × (numberOf (now numbers) s < 128) ⌝ }
-    requires { ⌜ (p .count < 256) × (p .placed < 128) × (0 < p .height) ⌝ }
+    requires { ⌜ (0 < length (members s)) × (getD (now starts) (p .height - 1) 0 < 128) ⌝ }
+    requires { ⌜ (p .count < 256) × (p .placed < 128) × (0 < p .height) × (p .height ≤ 128) ⌝ }
     ensures { λ r. ⌜ r .height + 1 ≡ p .height ⌝ }
     ensures { λ r. ⌜ (r .count ≡ p .count + 1) × (r .groups ≡ p .groups) × (r .placed ≡ p .placed + 1) ⌝ }
     ensures { λ r. ⌜ (now (fields .exit) ≡ set (now (fields .entry)) (p .count) (lead s))
         × (now (forward .exit) ≡ set (now (forward .entry)) (p .placed) (lead s))
-        × (now (reverse .exit) ≡ set (now (reverse .entry)) (numberOf (now (numbers .entry)) s) (lead s)) ⌝ }
+        × (now (reverse .exit) ≡ set (now (reverse .entry)) (getD (now (starts .entry)) (p .height - 1) 0) (lead s)) ⌝ }
 {
     let x = set::smallest(s);
-    let start = numbers[x];
+    let top = p.height - 1;
+    let start = starts[top];
     let count = p.count;
     let placed = p.placed;
     fields[count] = (x % 65536) as u16;
     forward[placed] = (x % 256) as u8;
     reverse[start] = (x % 256) as u8;
     Progress {
-        height: p.height - 1,
+        height: top,
         count: count + 1,
         groups: p.groups,
         placed: placed + 1,
@@ -153,31 +152,35 @@ fn spread(
     parts: &[[u64; 2]; 128],
     count: usize,
     stack: &mut [[u64; 2]; 128],
-    numbers: &mut [usize; 128],
+    starts: &mut [usize; 128],
     kinds: &mut [bool; 128],
+    sizes: &mut [u8; 128],
     top: usize,
 ) -> usize
     requires { ⌜ (count ≤ 128) × (top + count ≤ 128) × (top < 128) ⌝ }
-    requires { ⌜ (length (now parts) ≡ 128) × Stacks (now stack) (now numbers) (now kinds) ⌝ }
-    requires { ⌜ Opens (entryAt (now stack) (now numbers) (now kinds) top) (entries (now stack) (now numbers) (now kinds) top)
-        (take count (now parts)) ⌝ }
+    requires { ⌜ (length (now parts) ≡ 128) × Stacks (now stack) (now starts) (now kinds) (now sizes) (top + 1) ⌝ }
+    requires { ⌜ Opens (entryAt (now stack) (now starts) (now kinds) top) (take count (now parts)) ⌝ }
     ensures { λ r. ⌜ r ≡ top + count ⌝ }
-    ensures { λ r. ⌜ Stacks (now (stack .exit)) (now (numbers .exit)) (now (kinds .exit)) ⌝ }
-    ensures { λ r. ⌜ entries (now (stack .exit)) (now (numbers .exit)) (now (kinds .exit)) (top + count)
-        ≡ opened (entryAt (now (stack .entry)) (now (numbers .entry)) (now (kinds .entry)) top) (take count (now (parts .entry)))
-        ++ entries (now (stack .entry)) (now (numbers .entry)) (now (kinds .entry)) top ⌝ }
+    ensures { λ r. ⌜ Stacks (now (stack .exit)) (now (starts .exit)) (now (kinds .exit)) (now (sizes .exit)) (top + count) ⌝ }
+    ensures { λ r. ⌜ entries (now (stack .exit)) (now (starts .exit)) (now (kinds .exit)) (top + count)
+        ≡ opened (entryAt (now (stack .entry)) (now (starts .entry)) (now (kinds .entry)) top) (take count (now (parts .entry)))
+        ++ entries (now (stack .entry)) (now (starts .entry)) (now (kinds .entry)) top ⌝ }
 {
-    let s = stack[top];
     let series = kinds[top];
-    let job = set::smallest(s);
-    let start = numbers[job];
-    let whole = set::size(s);
+    let start = starts[top];
+    let whole = wide(sizes[top]);
     let g = Group {
         series,
         start,
         whole,
     };
-    push(parts, count, g, stack, numbers, kinds, top)
+    push(parts, count, g, stack, starts, kinds, sizes, top)
+}
+
+fn wide(x: u8) -> usize
+    ensures { λ r. ⌜ r ≡ x ⌝ }
+{
+    x as usize
 }
 
 // The parts of a set for a group of this kind.
@@ -188,17 +191,19 @@ fn split_as(
     series: bool,
     s: [u64; 2],
     parts: &mut [[u64; 2]; 128],
+    numbers: &mut [u8; 128],
 ) -> usize
     requires { ⌜ Jobs s ⌝ }
     requires { ⌜ Partial (holds (now under)) ⌝ }
-    requires { ⌜ length (now parts) ≡ 128 ⌝ }
+    requires { ⌜ (length (now parts) ≡ 128) × (length (now numbers) ≡ 128) ⌝ }
     ensures { λ r. ⌜ Cut (closeOf series (holds (now (tied .entry))) (holds (now (free .entry)))) (holds (now (under .entry))) series s
         (now (parts .exit)) r ⌝ }
+    ensures { λ r. ⌜ Numbered s (now (parts .exit)) r (now (numbers .entry)) (now (numbers .exit)) ⌝ }
 {
     if series {
-        parts::split(free, under, true, s, parts)
+        parts::split(free, under, true, s, parts, numbers)
     } else {
-        parts::split(tied, under, false, s, parts)
+        parts::split(tied, under, false, s, parts, numbers)
     }
 }
 
@@ -208,19 +213,23 @@ fn first_entry(
     under: &[[u64; 2]; 128],
     n: usize,
     parts: &mut [[u64; 2]; 128],
+    numbers: &mut [u8; 128],
     stack: &mut [[u64; 2]; 128],
     kinds: &mut [bool; 128],
+    sizes: &mut [u8; 128],
 ) -> usize
     requires { ⌜ n ≤ 128 ⌝ }
     requires { ⌜ Partial (holds (now under)) ⌝ }
-    requires { ⌜ length (now parts) ≡ 128 ⌝ }
-    ensures { λ r. ⌜ FirstEntry n (holds (now (free .entry))) (holds (now (under .entry))) (now (stack .entry)) (now (stack .exit))
-        (now (kinds .entry)) (now (kinds .exit)) (now (parts .exit)) r ⌝ }
+    requires { ⌜ (length (now parts) ≡ 128) × (length (now numbers) ≡ 128) ⌝ }
+    ensures { λ r. ⌜ FirstEntry n (holds (now (free .entry))) (holds (now (under .entry))) (now (numbers .entry)) (now (numbers .exit))
+        (now (stack .entry)) (now (stack .exit)) (now (kinds .entry)) (now (kinds .exit)) (now (sizes .entry)) (now (sizes .exit))
+        (now (parts .exit)) r ⌝ }
 {
     let all = set::all_below(n);
-    let first = parts::split(free, under, true, all, parts);
+    let first = parts::split(free, under, true, all, parts, numbers);
     stack[0] = all;
     kinds[0] = 1 < first;
+    sizes[0] = (n % 256) as u8;
     first
 }
 
@@ -297,13 +306,24 @@ pub fn shape_of(after: [[u64; 2]; 128], under: &[[u64; 2]; 128], n: usize) -> Sh
     let mut free = [[0; 2]; 128];
     compare(&after, under, n, &mut tied, &mut free);
     let mut parts = [[0; 2]; 128];
-    let mut stack = [[0; 2]; 128];
     let mut numbers = [0; 128];
+    let mut stack = [[0; 2]; 128];
+    let mut starts = [0; 128];
     let mut kinds = [false; 128];
+    let mut sizes = [0; 128];
     let mut fields = [0; 256];
     let mut forward = [0; 128];
     let mut reverse = [0; 128];
-    let first = first_entry(&free, under, n, &mut parts, &mut stack, &mut kinds);
+    let first = first_entry(
+        &free,
+        under,
+        n,
+        &mut parts,
+        &mut numbers,
+        &mut stack,
+        &mut kinds,
+        &mut sizes,
+    );
     let mut p = Progress {
         height: 1,
         count: 0,
@@ -311,23 +331,39 @@ pub fn shape_of(after: [[u64; 2]; 128], under: &[[u64; 2]; 128], n: usize) -> Sh
         placed: 0,
     };
     if 1 < first {
-        let height = spread(&parts, first, &mut stack, &mut numbers, &mut kinds, 0);
+        let height = spread(
+            &parts,
+            first,
+            &mut stack,
+            &mut starts,
+            &mut kinds,
+            &mut sizes,
+            0,
+        );
         let next = put_group(&mut fields, true, first, p, height);
         p = next;
     }
     while 0 < p.height {
         let top = p.height - 1;
         let s = stack[top];
-        if set::size(s) == 1 {
-            let next = put_leaf(&mut fields, &mut forward, &mut reverse, &numbers, s, p);
+        if sizes[top] == 1 {
+            let next = put_leaf(&mut fields, &mut forward, &mut reverse, &starts, s, p);
             p = next;
         } else {
             let series = kinds[top];
-            let count = split_as(&tied, &free, under, series, s, &mut parts);
+            let count = split_as(&tied, &free, under, series, s, &mut parts, &mut numbers);
             if count < 2 {
                 return no_shape();
             }
-            let height = spread(&parts, count, &mut stack, &mut numbers, &mut kinds, top);
+            let height = spread(
+                &parts,
+                count,
+                &mut stack,
+                &mut starts,
+                &mut kinds,
+                &mut sizes,
+                top,
+            );
             let next = put_group(&mut fields, series, count, p, height);
             p = next;
         }

@@ -2,45 +2,38 @@
 use Prim.Native.Nat.{ℕ, _+_, _-_, _≤_, _<_}
 use mathlib.Core.Path.{refl}
 use mathlib.Core.List.{List, []}
+use native.Mathlib.Nat.{mod-eq-of-lt}
 use native.Mathlib.Omega.{arith}
 use lib.ListN.{length, getD}
+use borrow.Author.Needs.{needs}
 use Rattle.relation.specs.Table.{members}
 use Rattle.writer.specs.Stack.{Entry, entries}
-use Rattle.writer.proofs.Leads.{some-any}
-use Rattle.writer.proofs.Stacking.{Pushing, push-start, push-next, push-end, fits-whole, part-some}
+use Rattle.writer.proofs.Stacking.{Pushing, push-start, push-next, push-end, fits-whole}
 use Rattle.writer.proofs.tree.push.Statement.{statement}
 use Rattle.writer.proofs.tree.push.Tie as tie
 
 abbrev Inv-loop : tie.InvT-loop
-Inv-loop parts count g stack₀ numbers₀ kinds₀ height i₀ top₀ later₀ series stack numbers kinds i top later =
-    Pushing parts count (g .series) (g .start) (g .whole) (entries stack₀ numbers₀ kinds₀ height) height stack numbers kinds i top later
+Inv-loop parts count g stack₀ starts₀ kinds₀ sizes₀ height i₀ top₀ later₀ series stack starts kinds sizes i top later =
+    Pushing parts count (g .series) (g .start) (g .whole) (entries stack₀ starts₀ kinds₀ height) height stack starts kinds sizes i top later
 
 abbrev μ-loop : tie.MeasureT-loop
-μ-loop parts count g stack₀ numbers₀ kinds₀ height i₀ top₀ later₀ series stack numbers kinds i top later = i
+μ-loop parts count g stack₀ starts₀ kinds₀ sizes₀ height i₀ top₀ later₀ series stack starts kinds sizes i top later = i
 
 abbrev old : tie.Start Inv-loop μ-loop → List Entry
-old s = entries (s .args .stack .now) (s .args .numbers .now) (s .args .kinds .now) (s .args .height)
+old s = entries (s .args .stack .now) (s .args .starts .now) (s .args .kinds .now) (s .args .height)
 
 -- the part that is next
 module _ (c : tie.In-loop Inv-loop μ-loop) where
   abbrev part : List ℕ
   part = getD (c .before .before .args .parts .now) (c .before .loop .i - 1) []
 
-  some : 0 < length (members part)
-  some =
-      let s = c .before .before in
-      let l = c .before .loop in
-      let a = s .args in
-      part-some (a .parts .now) (a .count) (a .g .series) (a .g .start) (a .g .whole) (old s) (a .height) (l .stack) (l .numbers) (l .kinds)
-      (l .i) (l .top) (l .later) (l .i - 1) (l .inv) (omega (arith, c .loop-test .taken)) (omega (arith, s .pre .1 .0 .0, s .pre .0 .0)) (s .pre .1 .1 .1)
-
   fits : c .before .loop .later + length (members part) ≤ c .before .before .args .g .whole
   fits =
       let s = c .before .before in
       let l = c .before .loop in
       let a = s .args in
-      fits-whole (a .parts .now) (a .count) (a .g .series) (a .g .start) (a .g .whole) (old s) (a .height) (l .stack) (l .numbers) (l .kinds)
-      (l .i) (l .top) (l .later) (l .i - 1) (l .inv) (omega (arith, c .loop-test .taken)) (omega (arith, s .pre .1 .0 .0, s .pre .0 .0)) (s .pre .1 .1 .1)
+      fits-whole (a .parts .now) (a .count) (a .g .series) (a .g .start) (a .g .whole) (old s) (a .height) (l .stack) (l .starts) (l .kinds) (l .sizes)
+      (l .i) (l .top) (l .later) (l .i - 1) (l .inv) (omega (arith, c .loop-test .taken)) (omega (arith, s .pre .1 .0 .0, s .pre .0 .0))
       (s .pre .1 .0 .1)
 
   low : c .before .loop .top < 128
@@ -49,8 +42,8 @@ module _ (c : tie.In-loop Inv-loop μ-loop) where
 loop-holds : tie.Need-loop-holds Inv-loop μ-loop
 loop-holds c =
     let a = c .args in
-    push-start (a .parts .now) (a .count) (a .g .series) (a .g .start) (a .g .whole) (old c) (a .height) (a .stack .now) (a .numbers .now) (a .kinds .now)
-    (c .pre .1 .1 .0) refl
+    push-start (a .parts .now) (a .count) (a .g .series) (a .g .start) (a .g .whole) (old c) (a .height) (a .stack .now) (a .starts .now) (a .kinds .now)
+    (a .sizes .now) (c .pre .1 .1) refl
 
 sub-i : tie.Need-sub-i Inv-loop μ-loop
 sub-i c = omega arith
@@ -64,60 +57,62 @@ element-copy-out-part c = omega arith
 size-requires : tie.Need-size-requires Inv-loop μ-loop
 size-requires c κs = tt
 
-smallest-requires : tie.Need-smallest-requires Inv-loop μ-loop
-smallest-requires c κs = some-any (part (c .before .before)) (some (c .before .before))
-
 start-of-requires : tie.Need-start-of-requires Inv-loop μ-loop
 start-of-requires c κs =
-    let t = c .before .before .before in
-    (t .before .before .pre .0 .2, omega (arith, fits t, c .before .size .ensures .0))
+    let t = c .before .before in
+    (t .before .before .pre .0 .2, omega (arith, fits t, c .size .ensures .0))
 
-mul-numbers : tie.Need-mul-numbers Inv-loop μ-loop
-mul-numbers c = omega (arith, c .before .smallest .ensures .small)
+mul-starts : tie.Need-mul-starts Inv-loop μ-loop
+mul-starts c = omega (arith, low (c .before .before .before))
 
-element-write-numbers : tie.Need-element-write-numbers Inv-loop μ-loop
-element-write-numbers c = omega (arith, c .before .smallest .ensures .small)
+element-write-starts : tie.Need-element-write-starts Inv-loop μ-loop
+element-write-starts c = omega (arith, low (c .before .before .before))
 
 mul-part-2 : tie.Need-mul-part-2 Inv-loop μ-loop
-mul-part-2 c = omega (arith, low (c .before .before .before .before))
+mul-part-2 c = omega (arith, low (c .before .before .before))
 
 element-set-from-part : tie.Need-element-set-from-part Inv-loop μ-loop
-element-set-from-part c = omega (arith, low (c .before .before .before .before))
+element-set-from-part c = omega (arith, low (c .before .before .before))
 
 element-write-kinds : tie.Need-element-write-kinds Inv-loop μ-loop
-element-write-kinds c = omega (arith, low (c .before .before .before .before))
+element-write-kinds c = omega (arith, low (c .before .before .before))
+
+cast-sizes : tie.Need-cast-sizes Inv-loop μ-loop
+cast-sizes c = search needs
+
+element-write-sizes : tie.Need-element-write-sizes Inv-loop μ-loop
+element-write-sizes c = omega (arith, low (c .before .before .before))
 
 add-later : tie.Need-add-later Inv-loop μ-loop
 add-later c =
-    let t = c .before .before .before .before in
-    record { fits = omega (arith, fits t, c .before .before .size .ensures .0, t .before .before .pre .0 .2) }
+    let t = c .before .before .before in
+    record { fits = omega (arith, fits t, c .before .size .ensures .0, t .before .before .pre .0 .2) }
 
 add-top : tie.Need-add-top Inv-loop μ-loop
-add-top c = record { fits = omega (arith, low (c .before .before .before .before)) }
+add-top c = record { fits = omega (arith, low (c .before .before .before)) }
 
 loop-less : tie.Need-loop-less Inv-loop μ-loop
-loop-less c = omega (arith, c .before .before .before .before .loop-test .taken)
+loop-less c = omega (arith, c .before .before .before .loop-test .taken)
 
 loop-again : tie.Need-loop-again Inv-loop μ-loop
 loop-again c =
-    let t = c .before .before .before .before in
+    let t = c .before .before .before in
     let s = t .before .before in
     let l = t .before .loop in
     let a = s .args in
-    let size = c .before .before .size in
-    let least = c .before .smallest in
-    push-next (a .parts .now) (a .count) (a .g .series) (a .g .start) (a .g .whole) (old s) (a .height) (l .stack) (l .numbers) (l .kinds)
-    (l .i) (l .top) (l .later) (l .i - 1) (l .inv) (omega (arith, t .loop-test .taken)) (omega (arith, s .pre .1 .0 .0, s .pre .0 .0)) (s .pre .1 .1 .1)
-    (size .result) (c .start-of .result) (least .result) (size .ensures .0) (c .start-of .ensures) (least .ensures) (s .pre .0 .1)
+    let size = c .before .size in
+    push-next (a .parts .now) (a .count) (a .g .series) (a .g .start) (a .g .whole) (old s) (a .height) (l .stack) (l .starts) (l .kinds) (l .sizes)
+    (l .i) (l .top) (l .later) (l .i - 1) (l .inv) (omega (arith, t .loop-test .taken)) (omega (arith, s .pre .1 .0 .0, s .pre .0 .0))
+    (size .result) (c .start-of .result) _ (size .ensures .0) (c .start-of .ensures) (mod-eq-of-lt (omega (arith, size .ensures .1))) (s .pre .0 .1)
 
 returns : tie.Need-returns Inv-loop μ-loop
 returns c =
     let s = c .before .before in
     let a = s .args in
     let l = c .before .loop in
-    let e = push-end (a .parts .now) (a .count) (a .g .series) (a .g .start) (a .g .whole) (old s) (a .height) (l .stack) (l .numbers) (l .kinds)
+    let e = push-end (a .parts .now) (a .count) (a .g .series) (a .g .start) (a .g .whole) (old s) (a .height) (l .stack) (l .starts) (l .kinds) (l .sizes)
     (l .i) (l .top) (l .later) (l .inv) (omega arith) in
-    (e .0, (l .inv .stacks, e .1))
+    (e .0, (e .1, e .2))
 
 pub push-spec : {M : Type 1} → statement M
 push-spec =
@@ -130,13 +125,14 @@ push-spec =
     mul-part
     element-copy-out-part
     size-requires
-    smallest-requires
     start-of-requires
-    mul-numbers
-    element-write-numbers
+    mul-starts
+    element-write-starts
     mul-part-2
     element-set-from-part
     element-write-kinds
+    cast-sizes
+    element-write-sizes
     add-later
     add-top
     loop-less

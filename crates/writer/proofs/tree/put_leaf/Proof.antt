@@ -1,6 +1,6 @@
 -- `tree::put_leaf`: one store in each list.
-use Prim.Native.Nat.{_%_, _<_}
-use mathlib.Core.Path.{_≡_, refl, sym, ap, ap₂, subst, _∙_}
+use Prim.Native.Nat.{_%_, _-_}
+use mathlib.Core.Path.{_≡_, refl, sym, ap, _∙_}
 use native.Mathlib.Nat.{mod-eq-of-lt}
 use native.Mathlib.Omega.{arith}
 use lib.ListN.{getD, set}
@@ -12,6 +12,9 @@ use Rattle.writer.proofs.tree.put_leaf.Tie as tie
 
 smallest-requires : tie.Need-smallest-requires
 smallest-requires c κs = some-any (c .args .s) (c .pre .0 .0)
+
+sub-top : tie.Need-sub-top
+sub-top c = search needs
 
 mul-start : tie.Need-mul-start
 mul-start c = search needs
@@ -42,17 +45,13 @@ cast-reverse : tie.Need-cast-reverse
 cast-reverse c = search needs
 
 element-write-reverse : tie.Need-element-write-reverse
-element-write-reverse c =
-    subst (λ k. getD (c .before .before .args .numbers .now) k 0 < 128) (job (c .before)) (c .before .before .pre .0 .1)
+element-write-reverse c = search needs
 
-sub-t11 : tie.Need-sub-t11
-sub-t11 c = search needs
+add-t12 : tie.Need-add-t12
+add-t12 c = search needs
 
-add-t14 : tie.Need-add-t14
-add-t14 c = search needs
-
-add-t23 : tie.Need-add-t23
-add-t23 c = search needs
+add-t15 : tie.Need-add-t15
+add-t15 c = search needs
 
 returns : tie.Need-returns
 returns c =
@@ -69,7 +68,7 @@ returns c =
         (
           ap (set (a .fields .now) (a .p .count)) long,
           ap (set (a .forward .now) (a .p .placed)) short,
-          ap₂ (set (a .reverse .now)) (ap (λ k. getD (a .numbers .now) k 0) is) short,
+          ap (set (a .reverse .now) (getD (a .starts .now) (a .p .height - 1) 0)) short,
         ),
       ),
     )
@@ -79,6 +78,7 @@ put-leaf-spec =
     tie.close
     (tie.spec
     smallest-requires
+    sub-top
     mul-start
     element-copy-out-start
     cast-fields
@@ -88,7 +88,6 @@ put-leaf-spec =
     element-write-forward
     cast-reverse
     element-write-reverse
-    sub-t11
-    add-t14
-    add-t23
+    add-t12
+    add-t15
     returns)

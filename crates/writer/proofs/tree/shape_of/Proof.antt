@@ -1,6 +1,6 @@
 -- `tree::shape_of`: the tree is written entry by entry.
 use Prim.Native.Nat.{ℕ, suc, _+_, _-_, _≤_, _<_}
-use mathlib.Core.Path.{_≡_, refl, sym, ap, subst₂, _∙_}
+use mathlib.Core.Path.{_≡_, refl, sym, ap, subst, subst₂, _∙_}
 use mathlib.Core.List.{List, []}
 use mathlib.Core.Bool.{true, false}
 use mathlib.Core.Logic.{⊎-elim}
@@ -10,6 +10,7 @@ use lib.ListN.{length, getD, replicate, set}
 use Rattle.poset.specs.Order.{Rel}
 use Rattle.poset.specs.Decompose.{treeOf}
 use Rattle.poset.proofs.Laws.{lt-true}
+use Rattle.poset.proofs.Sums.{length-below}
 use Rattle.relation.specs.Table.{members, holds}
 use Rattle.writer.specs.declared.tree.Progress.{Progress}
 use Rattle.writer.specs.Parts.{Cut, closeOf}
@@ -17,21 +18,22 @@ use Rattle.writer.specs.Stack.{entryAt, lead, groupField}
 use Rattle.writer.specs.Tokens.{shape}
 use Rattle.writer.proofs.Leads.{lead-member, single}
 use Rattle.writer.proofs.Entries.{EntryOk}
+use Rattle.writer.proofs.Stacking.{stacks-lower}
 use Rattle.writer.proofs.Shaping.{Arrays, Shaping, height-few, shape-start, top-ok, room, opens, leaf-turn, group-cut, shape-done, no-tree}
 use Rattle.writer.proofs.Roots.{Tables, tables, transpose, transpose-is, root-cut, members-all, cut-joined, under-partial, stuck, alike}
 use Rattle.writer.proofs.tree.shape_of.Statement.{statement}
 use Rattle.writer.proofs.tree.shape_of.Tie as tie
 
 abbrev Inv-loop : tie.InvT-loop
-Inv-loop under n tied free parts₀ stack₀ numbers₀ kinds₀ fields₀ forward₀ reverse₀ first p₀ parts stack numbers kinds fields forward reverse p =
-    Tables n (transpose (holds under)) (holds under) (holds tied) (holds free)
-    × (length parts ≡ 128)
+Inv-loop under n tied free parts₀ numbers₀ stack₀ starts₀ kinds₀ sizes₀ fields₀ forward₀ reverse₀ first p₀ parts numbers stack starts kinds sizes fields forward reverse p =
+    Tables n (holds under) (holds tied) (holds free)
+    × ((length parts ≡ 128) × (length numbers ≡ 128))
     × Shaping n (transpose (holds under)) (holds tied) (holds free)
-    (record { stack = stack; numbers = numbers; kinds = kinds; fields = fields; forward = forward; reverse = reverse })
+    (record { stack = stack; starts = starts; kinds = kinds; sizes = sizes; fields = fields; forward = forward; reverse = reverse })
     p
 
 abbrev μ-loop : tie.MeasureT-loop
-μ-loop under n tied free parts₀ stack₀ numbers₀ kinds₀ fields₀ forward₀ reverse₀ first p₀ parts stack numbers kinds fields forward reverse p =
+μ-loop under n tied free parts₀ numbers₀ stack₀ starts₀ kinds₀ sizes₀ fields₀ forward₀ reverse₀ first p₀ parts numbers stack starts kinds sizes fields forward reverse p =
     512 - p .count
 
 compare-requires : tie.Need-compare-requires Inv-loop μ-loop
@@ -39,13 +41,13 @@ compare-requires c κs = (c .before .before .before .pre .0 .1, refl, refl)
 
 first-entry-requires : tie.Need-first-entry-requires Inv-loop μ-loop
 first-entry-requires c κs =
-    let s = c .before .before .before .before .before .before .before .before in
-    (s .pre .0 .1, (under-partial _ _ _ (s .pre .1 .0) (s .pre .1 .1 .0) (s .pre .1 .1 .1), refl))
+    let s = c .before .before .before .before .before .before .before .before .before .before in
+    (s .pre .0 .1, (under-partial _ _ _ (s .pre .1 .0) (s .pre .1 .1 .0) (s .pre .1 .1 .1), (refl, refl)))
 
 -- all jobs are on the stack
 module _ (c : tie.After-first-entry Inv-loop μ-loop) where
   abbrev s : tie.Start Inv-loop μ-loop
-  s = c .before .before .before .before .before .before .before .before .before
+  s = c .before .before .before .before .before .before .before .before .before .before .before
 
   abbrev under : Rel
   under = holds (s .args .under .now)
@@ -57,10 +59,10 @@ module _ (c : tie.After-first-entry Inv-loop μ-loop) where
   same-shape = ap (λ r. shape (treeOf (s .args .n) r)) (transpose-is _ _ (s .pre .1 .1 .1))
 
   abbrev tied : Rel
-  tied = holds (c .before .before .before .before .before .compare .last .1 .1 .1 .0)
+  tied = holds (c .before .before .before .before .before .before .before .compare .last .1 .1 .1 .0)
 
   abbrev free : Rel
-  free = holds (c .before .before .before .before .before .compare .last .1 .1 .1 .1 .0)
+  free = holds (c .before .before .before .before .before .before .before .compare .last .1 .1 .1 .1 .0)
 
   abbrev first : ℕ
   first = c .first-entry .result
@@ -71,9 +73,10 @@ module _ (c : tie.After-first-entry Inv-loop μ-loop) where
   abbrev begun : Arrays
   begun =
       record {
-        stack = c .first-entry .last .1 .1 .1 .1 .0;
-        numbers = replicate 128 0;
-        kinds = c .first-entry .last .1 .1 .1 .1 .1 .0;
+        stack = c .first-entry .last .1 .1 .1 .1 .1 .0;
+        starts = replicate 128 0;
+        kinds = c .first-entry .last .1 .1 .1 .1 .1 .1 .0;
+        sizes = c .first-entry .last .1 .1 .1 .1 .1 .1 .1 .0;
         fields = replicate 256 0;
         forward = replicate 128 0;
         reverse = replicate 128 0;
@@ -82,10 +85,10 @@ module _ (c : tie.After-first-entry Inv-loop μ-loop) where
   abbrev nothing : Progress
   nothing = record { height = 1; count = 0; groups = 0; placed = 0 }
 
-  has-tables : Tables (s .args .n) order under tied free
+  has-tables : Tables (s .args .n) under tied free
   has-tables =
       tables _ _ _ _ _ (s .pre .0 .1) (s .pre .1 .0) (s .pre .1 .1 .0) (s .pre .1 .1 .1)
-      (c .before .before .before .before .before .compare .ensures .0) (c .before .before .before .before .before .compare .ensures .1)
+      (c .before .before .before .before .before .before .before .compare .ensures .0) (c .before .before .before .before .before .before .before .compare .ensures .1)
 
   on-stack : getD (begun .stack) 0 [] ≡ c .first-entry .ensures .all
   on-stack = ap (λ l. getD l 0 []) (c .first-entry .ensures .on-stack)
@@ -93,13 +96,29 @@ module _ (c : tie.After-first-entry Inv-loop μ-loop) where
   kind : getD (begun .kinds) 0 false ≡ ltb 1 first
   kind = ap (λ l. getD l 0 false) (c .first-entry .ensures .kind)
 
+  size : getD (begun .sizes) 0 0 ≡ length (members (getD (begun .stack) 0 []))
+  size =
+      let e = c .first-entry .ensures in
+      ap (λ l. getD l 0 0) (e .size)
+      ∙ sym (ap length (members-all _ _ (has-tables .few) (e .is-all)) ∙ length-below (s .args .n))
+      ∙ ap (λ x. length (members x)) (sym on-stack)
+
   begins : Shaping (s .args .n) order tied free begun nothing
   begins =
       let t = has-tables in
       let e = c .first-entry .ensures in
       shape-start (s .args .n) (t .few) order tied free (e .all) (ltb 1 first) (members-all _ _ (t .few) (e .is-all))
-      (root-cut _ (s .pre .0 .0) (t .few) _ _ _ _ (t .strict) (t .turned) (t .tied-is) (t .free-is) _ (e .is-all) (e .cut))
-      begun (record { sets-size = ap length (e .on-stack); numbers-size = refl; kinds-size = ap length (e .kind) })
+      (root-cut _ (s .pre .0 .0) (t .few) _ _ _ _ (t .strict) (λ u v. refl) (t .tied-is) (t .free-is) _ (e .is-all) (e .cut))
+      begun
+      (record {
+        sets-length = ap length (e .on-stack);
+        starts-length = refl;
+        kinds-length = ap length (e .kind);
+        sizes-length = ap length (e .size);
+        sized = λ h l.
+            let bottom : 0 ≡ h = omega arith in
+            subst (λ k. getD (begun .sizes) k 0 ≡ length (members (getD (begun .stack) k []))) bottom size;
+      })
       on-stack refl kind refl refl refl nothing refl refl refl refl
 
 -- they come apart as a series
@@ -123,51 +142,55 @@ module _ (c : tie.Then1 Inv-loop μ-loop) where
 
 spread-requires : tie.Need-spread-requires Inv-loop μ-loop
 spread-requires c κs =
-    let t = c .before .before .before .before in
+    let t = c .before .before .before .before .before in
     let x = cut t in (
       (few-parts t, omega (arith, few-parts t), omega arith),
       ((x .size, begins (q t) .stacks), opens _ (has-tables (q t) .few) _ _ _ _ _ (begins (q t)) 0 refl _ x),
     )
 
 put-group-requires : tie.Need-put-group-requires Inv-loop μ-loop
-put-group-requires c κs = let t = c .before .before .before .before .before .before in (omega (arith, t .if1 .taken), few-parts t, omega arith, omega arith)
+put-group-requires c κs =
+    let t = c .before .before .before .before .before .before .before in
+    (omega (arith, t .if1 .taken), few-parts t, omega arith, omega arith)
 
 loop-holds : tie.Need-loop-holds Inv-loop μ-loop
 loop-holds c =
     let b = c .before in
     let t = has-tables b in (
       t,
-      b .first-entry .ensures .cut .size,
+      (b .first-entry .ensures .cut .size, b .first-entry .ensures .numbered .size),
       ⊎-elim
           (λ w.
           let th : tie.Then1 Inv-loop μ-loop = record { before = b; if1 = w .0 } in
-          let e = w .5 .ensures in
-          let g = w .7 .ensures in
+          let e = w .6 .ensures in
+          let g = w .8 .ensures in
           subst₂ (Shaping (s b .args .n) (order b) (tied b) (free b))
           (λ i. record {
-            stack = sym (w .8) i;
-            numbers = sym (w .9) i;
-            kinds = sym (w .10) i;
-            fields = sym (w .11) i;
+            stack = sym (w .9) i;
+            starts = sym (w .10) i;
+            kinds = sym (w .11) i;
+            sizes = sym (w .12) i;
+            fields = sym (w .13) i;
             forward = replicate 128 0;
             reverse = replicate 128 0;
           })
-          (sym (w .12))
-          (group-cut _ (t .few) _ _ _ _ _ (begins b) 0 refl _ (t .strict) (t .turned)
-          (alike _ (t .few) _ _ _ _ (t .strict) (t .turned) (t .tied-is) (t .free-is) (getD (begun b .kinds) 0 false))
-          (cut th) (omega (arith, w .0 .taken)) _ _ _ _ (e .1 .0) (e .1 .1) (g .0 .0 ∙ e .0) (g .0 .1) (g .0 .2) (g .0 .3) _
+          (sym (w .14))
+          (group-cut _ (t .few) _ _ _ _ _ (begins b) 0 refl _ (t .strict) (λ u v. refl)
+          (alike _ (t .few) _ _ _ _ (t .strict) (λ u v. refl) (t .tied-is) (t .free-is) (getD (begun b .kinds) 0 false))
+          (cut th) (omega (arith, w .0 .taken)) _ _ _ _ _ (e .1 .0) (e .1 .1) (g .0 .0 ∙ e .0) (g .0 .1) (g .0 .2) (g .0 .3) _
           (g .1 ∙ ap (λ k. set (replicate 256 0) 0 (groupField k (first b - 1))) (sym (series th)))))
           (λ w.
           subst₂ (Shaping (s b .args .n) (order b) (tied b) (free b))
           (λ i. record {
             stack = sym (w .1) i;
-            numbers = sym (w .2) i;
+            starts = sym (w .2) i;
             kinds = sym (w .3) i;
-            fields = sym (w .4) i;
+            sizes = sym (w .4) i;
+            fields = sym (w .5) i;
             forward = replicate 128 0;
             reverse = replicate 128 0;
           })
-          (sym (w .5)) (begins b))
+          (sym (w .6)) (begins b))
           (c .if1 .came),
     )
 
@@ -185,9 +208,9 @@ array-copy-out-s c =
     omega (arith, height-few _ _ _ _ _ _ (l .inv .2), l .inv .0 .few)
 
 -- the top entry
-module _ (c : tie.After-size Inv-loop μ-loop) where
+module _ (c : tie.After-s Inv-loop μ-loop) where
   abbrev turn : tie.At-loop Inv-loop μ-loop
-  turn = c .before .before .before .before .before
+  turn = c .before .before .before .before
 
   abbrev begin : tie.After-first-entry Inv-loop μ-loop
   begin = turn .before .before
@@ -199,26 +222,29 @@ module _ (c : tie.After-size Inv-loop μ-loop) where
   jobs = getD (turn .loop .stack) top []
 
   up : turn .loop .p .height ≡ suc top
-  up = omega (arith, c .before .before .before .if2 .taken)
+  up = omega (arith, c .before .before .if2 .taken)
 
   few : s begin .args .n ≤ 128
   few = turn .loop .inv .0 .few
 
-  ok : EntryOk (s begin .args .n) (tied begin) (free begin) (entryAt (turn .loop .stack) (turn .loop .numbers) (turn .loop .kinds) top)
+  ok : EntryOk (s begin .args .n) (tied begin) (free begin) (entryAt (turn .loop .stack) (turn .loop .starts) (turn .loop .kinds) top)
   ok = top-ok _ few _ _ _ _ _ (turn .loop .inv .2) top up .0
 
   fits : (top + length (members jobs) ≤ s begin .args .n) × (turn .loop .p .count < 255) × (turn .loop .p .placed < s begin .args .n)
       × (turn .loop .p .groups < 255)
   fits = room _ few _ _ _ _ _ (turn .loop .inv .2) top up
 
-size-requires : tie.Need-size-requires Inv-loop μ-loop
-size-requires c κs = tt
+  sized : getD (turn .loop .sizes) top 0 ≡ length (members jobs)
+  sized = turn .loop .inv .2 .stacks .sized top (omega (arith, up))
+
+array-read-if3 : tie.Need-array-read-if3 Inv-loop μ-loop
+array-read-if3 c = omega (arith, fits c .0, few c, ok c .some)
 
 put-leaf-requires : tie.Need-put-leaf-requires Inv-loop μ-loop
 put-leaf-requires c κs =
     let z = c .before .before .before .before .before in (
       (ok z .some, omega (arith, ok z .fits, ok z .some, few z)),
-      (omega (arith, fits z .1), omega (arith, fits z .2, few z), z .before .before .before .if2 .taken),
+      (omega (arith, fits z .1), omega (arith, fits z .2, few z), z .before .before .if2 .taken, omega (arith, fits z .0, ok z .some, up z, few z)),
     )
 
 loop-less : tie.Need-loop-less Inv-loop μ-loop
@@ -232,7 +258,7 @@ loop-again c =
       l .inv .0,
       l .inv .1,
       leaf-turn _ (few z) _ _ _ _ _ (l .inv .2) (top z) (up z) (lead (jobs z))
-          (single (jobs z) (sym (z .size .ensures .0) ∙ c .before .before .before .before .before .if3 .taken))
+          (single (jobs z) (sym (sized z) ∙ c .before .before .before .before .before .if3 .taken))
           (l .inv .0 .strict .irreflexive _ (ok z .small _ (lead-member (jobs z) (ok z .some))))
           _ (e .0) (e .1 .0 .0) (e .1 .0 .1) (e .1 .0 .2) _ _ _ (e .1 .1 .0) (e .1 .1 .1) (e .1 .1 .2),
     )
@@ -244,7 +270,7 @@ array-read-series c =
 
 split-as-requires : tie.Need-split-as-requires Inv-loop μ-loop
 split-as-requires c κs =
-    let z = c .before .before .before .before in
+    let z = c .before .before .before .before .before in
     let l = turn z .loop in
     ((λ v q. omega (arith, ok z .small v q, few z)), (l .inv .0 .partial, l .inv .1))
 
@@ -253,48 +279,48 @@ no-shape-requires c κs = tt
 
 returns : tie.Need-returns Inv-loop μ-loop
 returns c =
-    let z = c .before .before .before .before .before .before .before in
+    let z = c .before .before .before .before .before .before .before .before in
     let t = turn z .loop .inv .0 in
-    let joined = cut-joined (c .before .before .split-as .ensures) (omega (arith, ok z .fits, few z)) (c .before .if4 .taken) (ok z .some) in
-    let none = no-tree _ _ (t .strict) (stuck _ (t .few) _ _ _ _ (t .strict) (t .turned) (t .tied-is) (t .free-is) _ (ok z)
-    (λ e. c .before .before .before .before .before .before .if3 .left (z .size .ensures .0 ∙ e)) joined) in
+    let joined = cut-joined (c .before .before .split-as .ensures .0) (omega (arith, ok z .fits, few z)) (c .before .if4 .taken) (ok z .some) in
+    let none = no-tree _ _ (t .strict) (stuck _ (t .few) _ _ _ _ (t .strict) (λ u v. refl) (t .tied-is) (t .free-is) _ (ok z)
+    (λ e. c .before .before .before .before .before .before .before .if3 .left (sized z ∙ e)) joined) in
     c .no-shape .ensures ∙ ap shape (sym none) ∙ same-shape (begin z)
 
 spread-requires-2 : tie.Need-spread-requires-2 Inv-loop μ-loop
 spread-requires-2 c κs =
-    let z = c .before .before .before .before .before .before .before .before .before .before in
+    let z = c .before .before .before .before .before .before .before .before .before .before .before .before in
     let l = turn z .loop in
-    let x = c .before .before .before .before .before .split-as .ensures in (
+    let x = c .before .before .before .before .before .before .split-as .ensures .0 in (
       (omega (arith, x .few, fits z .0, few z), omega (arith, x .few, fits z .0, few z), omega (arith, fits z .0, few z, ok z .some)),
-      ((x .size, l .inv .2 .stacks), opens _ (few z) _ _ _ _ _ (l .inv .2) (top z) (up z) _ x),
+      ((x .size, stacks-lower _ _ _ _ _ _ (omega (arith, up z)) (l .inv .2 .stacks)), opens _ (few z) _ _ _ _ _ (l .inv .2) (top z) (up z) _ x),
     )
 
 put-group-requires-2 : tie.Need-put-group-requires-2 Inv-loop μ-loop
 put-group-requires-2 c κs =
-    let z = c .before .before .before .before .before .before .before .before .before .before .before .before in
-    let x = c .before .before .before .before .before .before .before .split-as .ensures in
-    let two = c .before .before .before .before .before .before .if4 .left in
+    let z = c .before .before .before .before .before .before .before .before .before .before .before .before .before .before in
+    let x = c .before .before .before .before .before .before .before .before .split-as .ensures .0 in
+    let two = c .before .before .before .before .before .before .before .if4 .left in
     (omega (arith, two), omega (arith, x .few, fits z .0, few z), omega (arith, fits z .1), omega (arith, fits z .3))
 
 loop-less-2 : tie.Need-loop-less-2 Inv-loop μ-loop
 loop-less-2 c =
-    let z = c .before .before .before .before .before .before .before .before .before .before .before .before .before in
+    let z = c .before .before .before .before .before .before .before .before .before .before .before .before .before .before .before in
     omega (arith, fits z .1, c .put-group2 .ensures .0 .1)
 
 loop-again-2 : tie.Need-loop-again-2 Inv-loop μ-loop
 loop-again-2 c =
-    let z = c .before .before .before .before .before .before .before .before .before .before .before .before .before in
+    let z = c .before .before .before .before .before .before .before .before .before .before .before .before .before .before .before in
     let l = turn z .loop in
     let t = l .inv .0 in
-    let x = c .before .before .before .before .before .before .before .before .split-as .ensures in
+    let x = c .before .before .before .before .before .before .before .before .before .split-as .ensures .0 in
     let e = c .before .before .spread2 .ensures in
-    let two = c .before .before .before .before .before .before .before .if4 .left in
+    let two = c .before .before .before .before .before .before .before .before .if4 .left in
     let g = c .put-group2 .ensures in (
       t,
-      x .size,
-      group-cut _ (t .few) _ _ _ _ _ (l .inv .2) (top z) (up z) _ (t .strict) (t .turned)
-          (alike _ (t .few) _ _ _ _ (t .strict) (t .turned) (t .tied-is) (t .free-is) (getD (l .kinds) (top z) false))
-          x two _ _ _ _ (e .1 .0) (e .1 .1) (g .0 .0 ∙ e .0) (g .0 .1) (g .0 .2) (g .0 .3) _ (g .1),
+      (x .size, c .before .before .before .before .before .before .before .before .before .split-as .ensures .1 .size),
+      group-cut _ (t .few) _ _ _ _ _ (l .inv .2) (top z) (up z) _ (t .strict) (λ u v. refl)
+          (alike _ (t .few) _ _ _ _ (t .strict) (λ u v. refl) (t .tied-is) (t .free-is) (getD (l .kinds) (top z) false))
+          x two _ _ _ _ _ (e .1 .0) (e .1 .1) (g .0 .0 ∙ e .0) (g .0 .1) (g .0 .2) (g .0 .3) _ (g .1),
     )
 
 shaped-requires : tie.Need-shaped-requires Inv-loop μ-loop
@@ -322,7 +348,7 @@ shape-of-spec =
     sub-top
     mul-s
     array-copy-out-s
-    size-requires
+    array-read-if3
     put-leaf-requires
     loop-less
     loop-again

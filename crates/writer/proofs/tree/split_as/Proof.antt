@@ -15,19 +15,23 @@ split-requires-2 c κs = search needs
 
 returns : tie.Need-returns
 returns c =
-    let a = c .before .before .before .args in
-    subst
-    (λ b. Cut (closeOf b (holds (a .tied .now)) (holds (a .free .now))) (holds (a .under .now)) b (a .s) (c .split .last .1 .1 .1 .1 .0) (c .split .result))
-    (sym (c .before .before .if1 .taken))
-    (c .split .ensures)
+    let a = c .before .before .before .before .args in (
+      subst
+          (λ b. Cut (closeOf b (holds (a .tied .now)) (holds (a .free .now))) (holds (a .under .now)) b (a .s) (c .split .last .1 .1 .1 .1 .0) (c .split .result))
+          (sym (c .before .before .before .if1 .taken))
+          (c .split .ensures .0),
+      c .split .ensures .1,
+    )
 
 returns-2 : tie.Need-returns-2
 returns-2 c =
-    let a = c .before .before .before .args in
-    subst
-    (λ b. Cut (closeOf b (holds (a .tied .now)) (holds (a .free .now))) (holds (a .under .now)) b (a .s) (c .split2 .last .1 .1 .1 .1 .0) (c .split2 .result))
-    (sym (c .before .before .if1 .left))
-    (c .split2 .ensures)
+    let a = c .before .before .before .before .args in (
+      subst
+          (λ b. Cut (closeOf b (holds (a .tied .now)) (holds (a .free .now))) (holds (a .under .now)) b (a .s) (c .split2 .last .1 .1 .1 .1 .0) (c .split2 .result))
+          (sym (c .before .before .before .if1 .left))
+          (c .split2 .ensures .0),
+      c .split2 .ensures .1,
+    )
 
 pub split-as-spec : {M : Type 1} → statement M
 split-as-spec = tie.close (tie.spec split-requires split-requires-2 returns returns-2)
