@@ -17,7 +17,7 @@ use Rattle.poset.proofs.Laws.{found-or-none}
 use Rattle.poset.proofs.Sums.{length-below}
 use Rattle.poset.proofs.Telling.{tells-means}
 use Rattle.poset.proofs.Theorems.{tree-of-means, tree-of-sound, tree-has-no-n}
-use Rattle.relation.specs.Table.{has, members}
+use Rattle.relation.specs.Table.{members}
 use Rattle.writer.specs.declared.tree.Progress.{Progress}
 use Rattle.writer.specs.Parts.{Splits, Cut, closeOf}
 use Rattle.writer.specs.Stack.{Entry, Stacks, entries, entryAt, jobsOf, spreadOut, opened, Opens, groupField}

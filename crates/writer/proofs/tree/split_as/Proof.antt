@@ -1,6 +1,5 @@
 -- `tree::split_as`: by the kind of group.
 use mathlib.Core.Path.{sym, subst}
-use lib.ListN.{take}
 use Rattle.relation.specs.Table.{holds}
 use Rattle.writer.specs.Parts.{Cut, closeOf}
 use borrow.Author.Needs.{needs}
