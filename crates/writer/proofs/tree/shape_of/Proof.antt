@@ -25,7 +25,8 @@ use Rattle.writer.proofs.tree.shape_of.Statement.{statement}
 use Rattle.writer.proofs.tree.shape_of.Tie as tie
 
 abbrev Inv-loop : tie.InvT-loop
-Inv-loop under n tied free parts₀ numbers₀ stack₀ starts₀ kinds₀ sizes₀ fields₀ forward₀ reverse₀ first p₀ parts numbers stack starts kinds sizes fields forward reverse p =
+Inv-loop under n tied free parts₀ numbers₀ stack₀ starts₀ kinds₀ sizes₀ fields₀ forward₀ reverse₀ first p₀
+    parts numbers stack starts kinds sizes fields forward reverse p =
     Tables n (holds under) (holds tied) (holds free)
     × ((length parts ≡ 128) × (length numbers ≡ 128))
     × Shaping n (transpose (holds under)) (holds tied) (holds free)
@@ -33,7 +34,8 @@ Inv-loop under n tied free parts₀ numbers₀ stack₀ starts₀ kinds₀ sizes
     p
 
 abbrev μ-loop : tie.MeasureT-loop
-μ-loop under n tied free parts₀ numbers₀ stack₀ starts₀ kinds₀ sizes₀ fields₀ forward₀ reverse₀ first p₀ parts numbers stack starts kinds sizes fields forward reverse p =
+μ-loop under n tied free parts₀ numbers₀ stack₀ starts₀ kinds₀ sizes₀ fields₀ forward₀ reverse₀ first p₀
+    parts numbers stack starts kinds sizes fields forward reverse p =
     512 - p .count
 
 compare-requires : tie.Need-compare-requires Inv-loop μ-loop
@@ -87,8 +89,8 @@ module _ (c : tie.After-first-entry Inv-loop μ-loop) where
 
   has-tables : Tables (s .args .n) under tied free
   has-tables =
-      tables _ _ _ _ _ (s .pre .0 .1) (s .pre .1 .0) (s .pre .1 .1 .0) (s .pre .1 .1 .1)
-      (c .before .before .before .before .before .before .before .compare .ensures .0) (c .before .before .before .before .before .before .before .compare .ensures .1)
+      let compared = c .before .before .before .before .before .before .before .compare .ensures in
+      tables _ _ _ _ _ (s .pre .0 .1) (s .pre .1 .0) (s .pre .1 .1 .0) (s .pre .1 .1 .1) (compared .0) (compared .1)
 
   on-stack : getD (begun .stack) 0 [] ≡ c .first-entry .ensures .all
   on-stack = ap (λ l. getD l 0 []) (c .first-entry .ensures .on-stack)

@@ -16,7 +16,8 @@ returns : tie.Need-returns
 returns c =
     let a = c .before .before .before .before .args in (
       subst
-          (λ b. Cut (closeOf b (holds (a .tied .now)) (holds (a .free .now))) (holds (a .under .now)) b (a .s) (c .split .last .1 .1 .1 .1 .0) (c .split .result))
+          (λ b. Cut (closeOf b (holds (a .tied .now)) (holds (a .free .now))) (holds (a .under .now)) b (a .s)
+          (c .split .last .1 .1 .1 .1 .0) (c .split .result))
           (sym (c .before .before .before .if1 .taken))
           (c .split .ensures .0),
       c .split .ensures .1,
@@ -26,7 +27,8 @@ returns-2 : tie.Need-returns-2
 returns-2 c =
     let a = c .before .before .before .before .args in (
       subst
-          (λ b. Cut (closeOf b (holds (a .tied .now)) (holds (a .free .now))) (holds (a .under .now)) b (a .s) (c .split2 .last .1 .1 .1 .1 .0) (c .split2 .result))
+          (λ b. Cut (closeOf b (holds (a .tied .now)) (holds (a .free .now))) (holds (a .under .now)) b (a .s)
+          (c .split2 .last .1 .1 .1 .1 .0) (c .split2 .result))
           (sym (c .before .before .before .if1 .left))
           (c .split2 .ensures .0),
       c .split2 .ensures .1,
