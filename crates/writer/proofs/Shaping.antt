@@ -1,6 +1,6 @@
 -- The loop that writes a tree: what holds at each turn, and at its ends.
 use Prim.Native.Nat.{ℕ, zero, suc, _+_, _-_, _≤_, _<_}
-use mathlib.Core.Path.{_≡_, sym, ap, subst, _∙_}
+use mathlib.Core.Path.{_≡_, sym, ap, subst, subst₂, _∙_}
 use mathlib.Core.List.{List, [], _∷_, _++_, map}
 use mathlib.Core.Bool.{Bool, true, false}
 use mathlib.Core.Option.{none, some}
@@ -56,6 +56,23 @@ pub record Shaping (n : ℕ) (r tied free : Rel) (a : Arrays) (p : Progress) : T
   pub forward-blank : drop (p .placed) (a .forward) ≡ replicate (128 - p .placed) 0
   pub reverse-blank : drop n (a .reverse) ≡ replicate (128 - n) 0
   pub todo : Todo n r (take (p .count) (a .fields)) (take (p .placed) (a .forward)) (a .reverse) (p .groups) (pend (entriesOf a p))
+
+-- the same arrays under other names
+pub shaping-same : (n : ℕ) (r tied free : Rel) (a b : Arrays) (p q : Progress) → b .stack ≡ a .stack → b .starts ≡ a .starts → b .kinds ≡ a .kinds
+    → b .sizes ≡ a .sizes → b .fields ≡ a .fields → b .forward ≡ a .forward → b .reverse ≡ a .reverse → q ≡ p
+    → Shaping n r tied free a p → Shaping n r tied free b q
+shaping-same n r tied free a b p q stack starts kinds sizes fields forward reverse progress =
+    subst₂ (Shaping n r tied free)
+    (λ i. record {
+      stack = sym stack i;
+      starts = sym starts i;
+      kinds = sym kinds i;
+      sizes = sym sizes i;
+      fields = sym fields i;
+      forward = sym forward i;
+      reverse = sym reverse i;
+    })
+    (sym progress)
 
 -- an entry has a job at least
 pub height-few : (n : ℕ) (r tied free : Rel) (a : Arrays) (p : Progress) → Shaping n r tied free a p → p .height ≤ n

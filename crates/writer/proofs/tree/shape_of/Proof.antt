@@ -19,7 +19,7 @@ use Rattle.writer.specs.Tokens.{shape}
 use Rattle.writer.proofs.Leads.{lead-member, single}
 use Rattle.writer.proofs.Entries.{EntryOk}
 use Rattle.writer.proofs.Stacking.{stacks-lower}
-use Rattle.writer.proofs.Shaping.{Arrays, Shaping, height-few, shape-start, top-ok, room, opens, leaf-turn, group-cut, shape-done, no-tree}
+use Rattle.writer.proofs.Shaping.{Arrays, Shaping, shaping-same, height-few, shape-start, top-ok, room, opens, leaf-turn, group-cut, shape-done, no-tree}
 use Rattle.writer.proofs.Roots.{Tables, tables, transpose, transpose-is, root-cut, members-all, cut-joined, under-partial, stuck, alike}
 use Rattle.writer.proofs.tree.shape_of.Statement.{statement}
 use Rattle.writer.proofs.tree.shape_of.Tie as tie
@@ -166,33 +166,13 @@ loop-holds c =
           let th : tie.Then1 Inv-loop μ-loop = record { before = b; if1 = w .0 } in
           let e = w .6 .ensures in
           let g = w .8 .ensures in
-          subst₂ (Shaping (s b .args .n) (order b) (tied b) (free b))
-          (λ i. record {
-            stack = sym (w .9) i;
-            starts = sym (w .10) i;
-            kinds = sym (w .11) i;
-            sizes = sym (w .12) i;
-            fields = sym (w .13) i;
-            forward = replicate 128 0;
-            reverse = replicate 128 0;
-          })
-          (sym (w .14))
+          shaping-same _ _ _ _ _ _ _ _ (w .9) (w .10) (w .11) (w .12) (w .13) refl refl (w .14)
           (group-cut _ (t .few) _ _ _ _ _ (begins b) 0 refl _ (t .strict) (λ u v. refl)
           (alike _ (t .few) _ _ _ _ (t .strict) (λ u v. refl) (t .tied-is) (t .free-is) (getD (begun b .kinds) 0 false))
           (cut th) (omega (arith, w .0 .taken)) _ _ _ _ _ (e .1 .0) (e .1 .1) (g .0 .0 ∙ e .0) (g .0 .1) (g .0 .2) (g .0 .3) _
           (g .1 ∙ ap (λ k. set (replicate 256 0) 0 (groupField k (first b - 1))) (sym (series th)))))
           (λ w.
-          subst₂ (Shaping (s b .args .n) (order b) (tied b) (free b))
-          (λ i. record {
-            stack = sym (w .1) i;
-            starts = sym (w .2) i;
-            kinds = sym (w .3) i;
-            sizes = sym (w .4) i;
-            fields = sym (w .5) i;
-            forward = replicate 128 0;
-            reverse = replicate 128 0;
-          })
-          (sym (w .6)) (begins b))
+          shaping-same _ _ _ _ _ _ _ _ (w .1) (w .2) (w .3) (w .4) (w .5) refl refl (w .6) (begins b))
           (c .if1 .came),
     )
 
