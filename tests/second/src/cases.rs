@@ -96,6 +96,23 @@ pub fn cases() -> Vec<Case> {
     repeated.shown = "the same and 0 64/ once more".to_string();
     cases.push(repeated);
 
+    // The longest sheet, the longest with line feeds alone, and a byte more.
+    for (end, more, says, whole) in [
+        ("</", "", &["accepted 132 1 2"], false),
+        ("</", "1", &["refused 1 0 0 0 0"], true),
+        ("/", "", &["accepted 132 1 2"], false),
+        ("/", "1", &["refused 2 32773 0 0 0"], true),
+    ] {
+        let order = format!("126 127{end}");
+        let shown = format!("128{end}") + &order.repeat(MOST_ORDERS) + more;
+        let mut long = case(false, &shown, says, whole);
+        long.shown = format!(
+            "sheet 128{end}, {MOST_ORDERS} times {order} and \"{more}\", {} bytes",
+            shown.len()
+        );
+        cases.push(long);
+    }
+
     cases.push(record_case(&[0x03, 0x81, 0x01, 0x00]));
     cases.push(record_case(&[0x03, 0x01, 0x00, 0x00]));
     cases.push(record_case(&[0x03, 0x01, 0x01, 0x00, 0x00]));
