@@ -2,7 +2,7 @@
 
 use crate::check::{Input, Tally, ENOUGH};
 use crate::generate::*;
-use second::cases;
+use second::{cases, LONGEST_SHEET, MOST_ORDERS};
 use std::collections::BTreeSet;
 
 const SEED: u64 = 0x0720_2401;
@@ -34,8 +34,12 @@ impl Task {
 
 /// All tasks, those of the heavy families first.
 pub fn tasks() -> Vec<Task> {
-    let families: [(&'static str, usize, Body); 16] = [
-        ("sheets about the longest", 1, longest_sheets),
+    let families: [(&'static str, usize, Body); 23] = [
+        (
+            "sheets about the longest",
+            LONG_COUNTS.len(),
+            longest_sheets,
+        ),
         ("large orders", 12, large_orders),
         ("series-parallel orders", 40, series_parallel_orders),
         ("some orders more", 30, some_orders_more),
@@ -45,6 +49,13 @@ pub fn tasks() -> Vec<Task> {
         ("damaged records", 20, damaged_records),
         ("off the list and self orders", 20, off_the_list),
         ("edited sheets", 20, edited_sheets),
+        ("line ends mixed", 30, mixed_ends),
+        ("a carriage return put in", 30, return_put_in),
+        ("a carriage return taken out", 10, return_taken_out),
+        ("a carriage return doubled", 10, return_doubled),
+        ("lines that end otherwise", 10, wrong_ends),
+        ("cut short at every byte", 10, cut_short),
+        ("every text of up to 7 letters", TEXT_PARTS, every_text),
         ("records with a flaw", 20, flawed_records),
         ("every order on up to 6 jobs", ORDER_PARTS, every_order),
         (
@@ -360,12 +371,211 @@ fn edited_sheets(rng: &mut Rng, _: usize, tally: &mut Tally) {
         } else {
             job_count(rng)
         };
-        let mut text = sheet(count, &series_parallel(rng, count));
+        let orders = series_parallel(rng, count);
+        let mut text = any_end(rng, &sheet(count, &orders));
         for _ in 0..rng.from(1, 3) {
             edit(rng, &mut text);
         }
         let (record_area, reduced_area) = some_areas(rng);
         tally.compare(&Input::Sheet(text), record_area, reduced_area);
+    }
+}
+
+/// A sheet in form, with line feeds alone: accepted, or refused by any number
+/// from 3 to 8 but 4.
+fn any_sheet(rng: &mut Rng, count: usize) -> Vec<u8> {
+    let mut orders = if rng.percent(70) {
+        series_parallel(rng, count)
+    } else {
+        any_graph(rng, count)
+    };
+    orders.truncate(MOST_ORDERS - 2);
+    let (u, v) = (rng.below(count), rng.below(count));
+    match rng.below(10) {
+        0 => orders.push((u, rng.from(count, 999))),
+        1 => orders.push((u, u)),
+        2 => orders.extend([(u, v), (v, u)]),
+        3 => orders.push((u, v)),
+        _ => {}
+    }
+    rng.shuffle(&mut orders);
+    let off = rng.pick(&[0, 129, 999]);
+    sheet(if rng.percent(5) { off } else { count }, &orders)
+}
+
+/// Sheets of every kind with line ends of both kinds; they say what they say
+/// with line feeds alone.
+fn mixed_ends(rng: &mut Rng, _: usize, tally: &mut Tally) {
+    for round in 0..600 {
+        let count = job_count(rng);
+        let text = if round == 0 {
+            sheet(count, &vec![(0, 1); rng.from(4095, 4099)])
+        } else {
+            any_sheet(rng, count)
+        };
+        let mut mixed = any_end(rng, &text);
+        let read = second::sheet::read(&mixed);
+        assert!(
+            read == second::sheet::read(&text),
+            "second itself reads line ends otherwise"
+        );
+        if rng.percent(10) {
+            edit(rng, &mut mixed);
+        }
+        let (record_area, reduced_area) = some_areas(rng);
+        tally.compare(&Input::Sheet(mixed), record_area, reduced_area);
+    }
+}
+
+/// Long enough for any order on up to 8 jobs.
+const SMALL: (usize, usize) = (20, 40);
+
+fn compare_small(tally: &mut Tally, sheet: Vec<u8>) {
+    tally.compare(&Input::Sheet(sheet), SMALL.0, SMALL.1);
+}
+
+/// A small sheet of every kind with line ends of every kind.
+fn small_sheets(rng: &mut Rng) -> [Vec<u8>; 3] {
+    let count = rng.from(1, 8);
+    let text = any_sheet(rng, count);
+    each_end(rng, &text)
+}
+
+fn put_in(sheet: &[u8], at: usize, bytes: &[u8]) -> Vec<u8> {
+    [&sheet[..at], bytes, &sheet[at..]].concat()
+}
+
+fn returns(sheet: &[u8]) -> Vec<usize> {
+    (0..sheet.len()).filter(|&at| sheet[at] == b'\r').collect()
+}
+
+/// A carriage return at every place, between two bytes and instead of one.
+fn return_put_in(rng: &mut Rng, part: usize, tally: &mut Tally) {
+    for _ in 0..12 {
+        for sheet in small_sheets(rng) {
+            for at in 0..=sheet.len() {
+                compare_small(tally, put_in(&sheet, at, b"\r"));
+            }
+            for at in 0..sheet.len() {
+                let mut changed = sheet.clone();
+                changed[at] = b'\r';
+                compare_small(tally, changed);
+            }
+        }
+    }
+    // Some places of a large sheet.
+    let count = rng.from(100, 128);
+    let text = sheet(count, &series_parallel(rng, count));
+    let sheet = each_end(rng, &text)[part % 3].clone();
+    for at in some_below(rng, sheet.len() + 1, 10) {
+        tally.compare_enough(&Input::Sheet(put_in(&sheet, at, b"\r")));
+    }
+}
+
+/// Each carriage return left out, of sheets in form and of those with one too
+/// many.
+fn return_taken_out(rng: &mut Rng, _: usize, tally: &mut Tally) {
+    for _ in 0..80 {
+        for sheet in small_sheets(rng) {
+            let one_more = put_in(&sheet, rng.below(sheet.len() + 1), b"\r");
+            for sheet in [sheet, one_more] {
+                for at in returns(&sheet) {
+                    let mut fewer = sheet.clone();
+                    fewer.remove(at);
+                    compare_small(tally, fewer);
+                }
+            }
+        }
+    }
+}
+
+/// Each carriage return twice and three times, and all of them twice.
+fn return_doubled(rng: &mut Rng, _: usize, tally: &mut Tally) {
+    for _ in 0..80 {
+        for sheet in small_sheets(rng) {
+            let mut all = sheet.clone();
+            for at in returns(&sheet).into_iter().rev() {
+                compare_small(tally, put_in(&sheet, at, b"\r"));
+                compare_small(tally, put_in(&sheet, at, b"\r\r"));
+                all.insert(at, b'\r');
+            }
+            compare_small(tally, all);
+        }
+    }
+}
+
+/// What no line ends in, though it is like an end.
+const WRONG_ENDS: [&[u8]; 14] = [
+    b"",
+    b"\r",
+    b"\n\r",
+    b"\r\r",
+    b"\r\r\n",
+    b"\r\n\r",
+    b"\n\n",
+    b"\n\r\n",
+    b"\r\n\n",
+    b"\r\n\r\n",
+    b" \r\n",
+    b"\r \n",
+    b"\r0\n",
+    b"\x0b\n",
+];
+
+/// Each line with a wrong end, then all lines with it.
+fn wrong_ends(rng: &mut Rng, _: usize, tally: &mut Tally) {
+    for _ in 0..20 {
+        for sheet in small_sheets(rng) {
+            let lines: Vec<&[u8]> = sheet.split_inclusive(|&byte| byte == b'\n').collect();
+            let content = |line: &[u8]| -> Vec<u8> {
+                let ends = |byte: &u8| *byte == b'\r' || *byte == b'\n';
+                line.iter()
+                    .copied()
+                    .take_while(|byte| !ends(byte))
+                    .collect()
+            };
+            for end in WRONG_ENDS {
+                for changed in 0..lines.len() {
+                    let mut text = lines[..changed].concat();
+                    text.extend(content(lines[changed]));
+                    text.extend(end);
+                    text.extend(lines[changed + 1..].concat());
+                    compare_small(tally, text);
+                }
+                let all = lines.iter().map(|line| [&content(line)[..], end].concat());
+                compare_small(tally, all.collect::<Vec<_>>().concat());
+            }
+        }
+    }
+}
+
+fn cut_short(rng: &mut Rng, _: usize, tally: &mut Tally) {
+    for _ in 0..40 {
+        for sheet in small_sheets(rng) {
+            for length in 0..=sheet.len() {
+                compare_small(tally, sheet[..length].to_vec());
+            }
+        }
+    }
+}
+
+const TEXT_PARTS: usize = 10;
+
+/// Every text of a few letters, from the start of a sheet and further on.
+fn every_text(_: &mut Rng, part: usize, tally: &mut Tally) {
+    let letters = b"01 \r\n";
+    for (ahead, most) in [(&b""[..], 7), (b"3\r\n", 6), (b"3\n0 1", 5)] {
+        for length in 0..=most {
+            for choice in (part..letters.len().pow(length)).step_by(TEXT_PARTS) {
+                let mut choice = choice;
+                let mut text = ahead.to_vec();
+                for _ in 0..length {
+                    text.push(letters[choice % letters.len()]);
+                    choice /= letters.len();
+                }
+                compare_small(tally, text);
+            }
+        }
     }
 }
 
@@ -472,6 +682,23 @@ fn short_byte_strings(_: &mut Rng, _: usize, tally: &mut Tally) {
             tally.compare_enough(&Input::Sheet(vec![first, second]));
             tally.compare_enough(&Input::Sheet(vec![b'2', b'\n', first, second]));
         }
+        // The byte ahead of a carriage return and after one, at each place of a
+        // line.
+        for ahead in [
+            &b""[..],
+            b"2",
+            b"2\n",
+            b"2\r\n",
+            b"2\n0",
+            b"2\n0 ",
+            b"2\n0 1",
+        ] {
+            for after in [&b""[..], b"\n", b"0 1\r\n"] {
+                for middle in [vec![first, b'\r'], vec![b'\r', first]] {
+                    compare_small(tally, [ahead, &middle, after].concat());
+                }
+            }
+        }
     }
 }
 
@@ -496,46 +723,110 @@ fn small_records(_: &mut Rng, _: usize, tally: &mut Tally) {
     }
 }
 
-/// Sheets of 32,771 bytes and more, in form and not.
-fn longest_sheets(rng: &mut Rng, _: usize, tally: &mut Tally) {
-    let orders = |rng: &mut Rng, count: usize| -> Orders {
-        (0..count)
-            .map(|_| (rng.from(100, 113), rng.from(114, 127)))
-            .collect()
-    };
-    let longest = orders(rng, 4096);
+const LONG_COUNTS: [usize; 4] = [128, 127, 120, 999];
+
+/// Bytes of the longest sheet that is accepted with line feeds alone.
+const WITHOUT_RETURNS: usize = 4 + 8 * MOST_ORDERS;
+
+/// As many orders as there may be, of jobs with three digits.
+fn long_orders(rng: &mut Rng) -> Orders {
+    (0..MOST_ORDERS)
+        .map(|_| (rng.from(100, 113), rng.from(114, 127)))
+        .collect()
+}
+
+/// A sheet of so many bytes with that many orders: job 99 for some jobs, each a
+/// byte less, and a carriage return for each byte missing.
+fn mixed_of_length(rng: &mut Rng, length: usize) -> Vec<u8> {
+    let least = WITHOUT_RETURNS.saturating_sub(length);
+    let most = (WITHOUT_RETURNS + MOST_ORDERS + 1 - length).min(MOST_ORDERS);
+    let mut orders = long_orders(rng);
+    let fewer = rng.from(least, most);
+    orders[..fewer].iter_mut().for_each(|order| order.0 = 99);
+    rng.shuffle(&mut orders);
+    let text = sheet(128, &orders);
+    with_returns(rng, &text, length - text.len())
+}
+
+/// A text of so many bytes, in form, with more orders than there may be.
+fn orders_of_length(rng: &mut Rng, count: usize, length: usize) -> Vec<u8> {
+    let orders = rng.from((length - 3).div_ceil(5), (length - 2) / 4);
+    let text = sheet(count, &vec![(1, 2); orders]);
+    with_returns(rng, &text, length - text.len())
+}
+
+/// Sheets about as long as the longest, in form and not, and about as long as
+/// the longest with line feeds alone.
+fn longest_sheets(rng: &mut Rng, part: usize, tally: &mut Tally) {
+    let longest = long_orders(rng);
     // Job 99 for one of the two: a byte less.
     let mut one_less = longest.clone();
     one_less[77].0 = 99;
-    for count in [128, 127, 120, 999] {
-        for orders in [&longest, &one_less] {
-            let sheet = sheet(count, orders);
-            for more in [&b""[..], b"\n", b"1", b" ", b"1 2\n"] {
+    let more: [&[u8]; 8] = [b"", b"\n", b"\r", b"\r\n", b"1", b" ", b"1 2\n", b"1 2\r\n"];
+    for (orders, less) in [(&longest, 0), (&one_less, 1)] {
+        let text = sheet(LONG_COUNTS[part], orders);
+        let [without, with, _] = each_end(rng, &text);
+        assert_eq!(without.len(), WITHOUT_RETURNS - less);
+        assert_eq!(with.len(), LONGEST_SHEET - less);
+        for sheet in [with, without] {
+            for more in more {
                 tally.compare_enough(&Input::Sheet([&sheet[..], more].concat()));
+                tally.compare_enough(&Input::Sheet([more, &sheet[..]].concat()));
             }
-            for length in sheet.len() - 8..sheet.len() {
+            for length in sheet.len() - 9..sheet.len() {
                 tally.compare_enough(&Input::Sheet(sheet[..length].to_vec()));
             }
-            for _ in 0..10 {
+            for _ in 0..6 {
                 let mut edited = sheet.clone();
                 edit(rng, &mut edited);
                 tally.compare_enough(&Input::Sheet(edited));
             }
         }
+        // One line or some with the other end.
+        for returns in [1, 2, 2048, MOST_ORDERS - 1, MOST_ORDERS] {
+            tally.compare_enough(&Input::Sheet(with_returns(rng, &text, returns)));
+        }
     }
-    for length in [
-        32_771, 32_772, 32_773, 32_774, 40_000, 65_535, 65_536, 65_537, 70_000, 200_000,
-    ] {
-        for byte in [b'\n', b'0', b'1', b'x', 0] {
+    if part == 0 {
+        exact_lengths(rng, tally);
+    }
+}
+
+/// Texts of lengths about the two, and of some others.
+fn exact_lengths(rng: &mut Rng, tally: &mut Tally) {
+    let about = |length: usize| [length - 1, length, length + 1, length + 2];
+    let mut lengths = [about(WITHOUT_RETURNS), about(LONGEST_SHEET)].concat();
+    for &length in &lengths {
+        if length <= LONGEST_SHEET {
+            for _ in 0..3 {
+                tally.compare_enough(&Input::Sheet(mixed_of_length(rng, length)));
+            }
+        }
+        for count in [0, 9] {
+            tally.compare_enough(&Input::Sheet(orders_of_length(rng, count, length)));
+        }
+        // Broken somewhere, too long or not.
+        for _ in 0..6 {
+            let mut broken = orders_of_length(rng, 9, length);
+            let at = rng.below(length);
+            broken[at] = rng.pick(b"\r\r\n 0x");
+            tally.compare_enough(&Input::Sheet(broken));
+        }
+    }
+    lengths.extend([40_000, 65_535, 65_536, 65_537, 70_000, 200_000]);
+    for length in lengths {
+        for byte in [b'\n', b'\r', b'0', b'1', b'x', 0] {
             tally.compare_enough(&Input::Sheet(vec![byte; length]));
         }
         // In form, as far as it goes.
-        let mut text = b"9\n".to_vec();
-        while text.len() < length {
-            text.extend(b"1 2\n");
+        for order in [&b"1 2\n"[..], b"1 2\r\n"] {
+            let mut text = b"9\n".to_vec();
+            while text.len() < length {
+                text.extend(order);
+            }
+            text.truncate(length);
+            tally.compare_enough(&Input::Sheet(text));
         }
-        text.truncate(length);
-        tally.compare_enough(&Input::Sheet(text));
     }
     // More orders than a pair list's 16 bits could number.
     for orders in [4096, 4097, 32_768, 32_769, 65_536, 65_537, 70_000] {

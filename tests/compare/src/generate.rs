@@ -248,6 +248,43 @@ pub fn sheet(count: usize, orders: &[(usize, usize)]) -> Vec<u8> {
     text.into_bytes()
 }
 
+/// The lines of a text, the bytes after the last line feed left out.
+pub fn lines(text: &[u8]) -> usize {
+    text.iter().filter(|&&byte| byte == b'\n').count()
+}
+
+/// The text with a carriage return put ahead of so many of its line feeds.
+pub fn with_returns(rng: &mut Rng, text: &[u8], returns: usize) -> Vec<u8> {
+    let mut chosen: Vec<bool> = (0..lines(text)).map(|line| line < returns).collect();
+    rng.shuffle(&mut chosen);
+    let mut chosen = chosen.into_iter();
+    let mut mixed = Vec::new();
+    for &byte in text {
+        if byte == b'\n' && chosen.next() == Some(true) {
+            mixed.push(b'\r');
+        }
+        mixed.push(byte);
+    }
+    mixed
+}
+
+/// The text with a carriage return ahead of none of its line feeds, of all, and
+/// of some.
+pub fn each_end(rng: &mut Rng, text: &[u8]) -> [Vec<u8>; 3] {
+    let lines = lines(text);
+    [0, lines, rng.below(lines + 1)].map(|returns| with_returns(rng, text, returns))
+}
+
+/// One of these.
+pub fn any_end(rng: &mut Rng, text: &[u8]) -> Vec<u8> {
+    let [none, all, some] = each_end(rng, text);
+    match rng.below(4) {
+        0 => none,
+        1 => all,
+        _ => some,
+    }
+}
+
 pub fn list(orders: &[(usize, usize)]) -> Vec<u16> {
     orders
         .iter()
@@ -257,7 +294,7 @@ pub fn list(orders: &[(usize, usize)]) -> Vec<u16> {
 
 /// One edit somewhere in a text.
 pub fn edit(rng: &mut Rng, text: &mut Vec<u8>) {
-    let likely = b"0123456789 \n\n  00";
+    let likely = b"0123456789 \n\n\r  00";
     let hostile = b"\r\t-+,./:x\0\x0b\x7f\x80\xff";
     let byte = match rng.below(10) {
         0 => rng.below(256) as u8,

@@ -1,13 +1,13 @@
 //! The C entries made of `second`, to try the harness with no library. A fault
 //! other than 0 makes them wrong in one way, which the harness has to find.
 
-use second::{packed, Outcome};
+use second::{packed, Outcome, LONGEST_SHEET};
 use std::slice::{from_raw_parts, from_raw_parts_mut};
 use std::sync::atomic::{AtomicUsize, Ordering};
 
 pub static FAULT: AtomicUsize = AtomicUsize::new(0);
 
-pub const FAULTS: [&str; 27] = [
+pub const FAULTS: [&str; 41] = [
     "none",
     "a byte after the record is set",
     "a byte after the reduced orders is set",
@@ -25,8 +25,22 @@ pub const FAULTS: [&str; 27] = [
     "the third place is packed eight bits too high",
     "4,096 orders are too many",
     "4,097 orders are not too many",
-    "a sheet of 32,772 bytes is too long",
+    "the longest sheet is too long",
+    "a sheet of a byte more than the longest is not too long",
+    "a sheet of 32,773 bytes is too long",
     "the place of a broken line is one too far where the sheet stops short",
+    "a carriage return alone ends a line",
+    "a carriage return ends the last line",
+    "carriage returns are left out wherever they stand",
+    "two carriage returns and a line feed end a line",
+    "a line feed and a carriage return end a line",
+    "a line ends as the first one does",
+    "the count line ends in a line feed alone",
+    "a carriage return in an empty line is let pass",
+    "the place after a carriage return is the carriage return's",
+    "the place is the carriage return's where the sheet stops short after it",
+    "the place of a wrong carriage return is that of the line feed after it",
+    "a carriage return ahead of a line feed is not counted in places",
     "an odd list is refused for its count first",
     "a self order counts as a circle",
     "the order's place counts from 1",
@@ -149,15 +163,125 @@ unsafe fn analysed(
     outcome
 }
 
+/// The text with every such piece exchanged.
+fn exchanged(text: &[u8], piece: &[u8], by: &[u8]) -> Vec<u8> {
+    let mut done = Vec::new();
+    let mut rest = text;
+    while let Some(&byte) = rest.first() {
+        if let Some(after) = rest.strip_prefix(piece) {
+            done.extend(by);
+            rest = after;
+        } else {
+            done.push(byte);
+            rest = &rest[1..];
+        }
+    }
+    done
+}
+
+/// The sheet as a reader takes it that is wrong about line ends.
+fn taken(sheet: &[u8]) -> Vec<u8> {
+    let mut taken = sheet.to_vec();
+    if sheet.len() > LONGEST_SHEET {
+        return taken;
+    }
+    if fault("a carriage return alone ends a line") {
+        for at in 0..sheet.len() {
+            if sheet[at] == b'\r' && sheet.get(at + 1) != Some(&b'\n') {
+                taken[at] = b'\n';
+            }
+        }
+    }
+    if sheet.last() == Some(&b'\r') && fault("a carriage return ends the last line") {
+        taken.push(b'\n');
+    }
+    if fault("carriage returns are left out wherever they stand") {
+        taken = exchanged(sheet, b"\r", b"");
+    }
+    if fault("two carriage returns and a line feed end a line") {
+        taken = exchanged(sheet, b"\r\r\n", b"\r\n");
+    }
+    if fault("a line feed and a carriage return end a line") {
+        taken = exchanged(sheet, b"\n\r", b"\n");
+    }
+    if fault("a carriage return in an empty line is let pass") {
+        taken = exchanged(sheet, b"\n\r\n", b"\n");
+    }
+    taken
+}
+
+/// The first place where a line ends otherwise than the first one.
+fn other_end(sheet: &[u8]) -> Option<usize> {
+    let has_return = |at: usize| at > 0 && sheet[at - 1] == b'\r';
+    let mut ends = (0..sheet.len()).filter(|&at| sheet[at] == b'\n');
+    let first = has_return(ends.next()?);
+    let other = ends.find(|&at| has_return(at) != first)?;
+    Some(if first { other } else { other - 1 })
+}
+
+/// Where the count line has a carriage return.
+fn return_in_count_line(sheet: &[u8]) -> Option<usize> {
+    let line = sheet.split(|&byte| byte == b'\n').next()?;
+    line.iter().position(|&byte| byte == b'\r')
+}
+
+/// The outcome where refusal 2 or its place is wrong about line ends.
+fn misplaced(sheet: &[u8], mut outcome: Outcome) -> Outcome {
+    for (name, wrong) in [
+        ("a line ends as the first one does", other_end(sheet)),
+        (
+            "the count line ends in a line feed alone",
+            return_in_count_line(sheet),
+        ),
+    ] {
+        if let Some(wrong) = wrong.filter(|_| outcome.number != 1 && fault(name)) {
+            if outcome.number != 2 || outcome.places[0] > wrong as u64 {
+                return plain_refusal(2, wrong as u64);
+            }
+        }
+    }
+    if outcome.number != 2 {
+        return outcome;
+    }
+    let place = outcome.places[0] as usize;
+    let (ahead, rest) = sheet.split_at(place);
+    let after_return = ahead.last() == Some(&b'\r');
+    let pairs = ahead.windows(2).filter(|pair| pair == b"\r\n").count();
+    if after_return && fault("the place after a carriage return is the carriage return's") {
+        outcome.places[0] -= 1;
+    }
+    let short = "the place is the carriage return's where the sheet stops short after it";
+    if after_return && rest.is_empty() && fault(short) {
+        outcome.places[0] -= 1;
+    }
+    let late = "the place of a wrong carriage return is that of the line feed after it";
+    if rest.starts_with(b"\r\n") && fault(late) {
+        outcome.places[0] += 1;
+    }
+    if fault("a carriage return ahead of a line feed is not counted in places") {
+        outcome.places[0] -= pairs as u64;
+    }
+    outcome
+}
+
 unsafe fn sheet_analysed(sheet: *const u8, sheet_len: usize, lent: &Lent) -> u64 {
     if sheet_len > 0 && fault("the input is written to") {
         *(sheet as *mut u8) ^= 1;
     }
     let sheet = from_raw_parts(sheet, sheet_len);
-    let (count, orders) = second::sheet::read(sheet).unwrap_or_default();
-    let analysis = |record, reduced| second::analyse_sheet(sheet, record, reduced);
-    let mut outcome = analysed(analysis, orders.len(), lent);
-    if sheet_len == 32_772 && fault("a sheet of 32,772 bytes is too long") {
+    let taken = taken(sheet);
+    let (count, orders) = second::sheet::read(&taken).unwrap_or_default();
+    let analysis = |record, reduced| second::analyse_sheet(&taken, record, reduced);
+    let mut outcome = misplaced(sheet, analysed(analysis, orders.len(), lent));
+    if sheet_len == LONGEST_SHEET && fault("the longest sheet is too long") {
+        outcome = plain_refusal(1, 0);
+    }
+    let not_too_long = "a sheet of a byte more than the longest is not too long";
+    if sheet_len == LONGEST_SHEET + 1 && fault(not_too_long) {
+        let place = second::sheet::read(sheet).err().unwrap_or(sheet_len);
+        outcome = plain_refusal(2, place as u64);
+    }
+    if sheet_len == 32_773 && fault("a sheet of 32,773 bytes is too long") {
         outcome = plain_refusal(1, 0);
     }
     let stops_short = outcome.number == 2 && outcome.places[0] == sheet_len as u64;

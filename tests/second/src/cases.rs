@@ -1,4 +1,5 @@
-//! Document 01's cases and a sheet or record for each of its misreadings.
+//! Document 01's cases, a sheet or record for each of its misreadings, and the
+//! line ends of request A.1.
 
 use crate::{printed, read_record, MOST_ORDERS};
 
@@ -8,7 +9,7 @@ pub enum Input {
 }
 
 pub struct Case {
-    /// The input as the paper shows it, or in words where it is long.
+    /// The input as `sheet` takes it, or in words where it is long.
     pub shown: String,
     pub starred: bool,
     pub input: Input,
@@ -18,9 +19,9 @@ pub struct Case {
     pub whole: bool,
 }
 
-/// The sheet shown with `/` for a line feed.
+/// The sheet shown with `/` for a line feed and `<` for a carriage return.
 pub fn sheet(shown: &str) -> Vec<u8> {
-    shown.replace('/', "\n").into_bytes()
+    shown.replace('/', "\n").replace('<', "\r").into_bytes()
 }
 
 fn case(starred: bool, shown: &str, says: &'static [&'static str], whole: bool) -> Case {
@@ -56,23 +57,21 @@ pub fn widest() -> String {
     shown
 }
 
+/// The answer to the printed sheet.
+const PRINTED: &[&str] = &[
+    "accepted 10 4 3",
+    "record 0981810060404080c100",
+    "0 1",
+    "0 2",
+    "1 3",
+    "2 3",
+    "forward 0 1 2 3 4",
+    "reverse 4 0 2 1 3",
+];
+
 pub fn cases() -> Vec<Case> {
     let mut cases = vec![
-        case(
-            false,
-            "5/0 1/0 2/1 3/2 3/0 3/",
-            &[
-                "accepted 10 4 3",
-                "record 0981810060404080c100",
-                "0 1",
-                "0 2",
-                "1 3",
-                "2 3",
-                "forward 0 1 2 3 4",
-                "reverse 4 0 2 1 3",
-            ],
-            true,
-        ),
+        case(false, "5/0 1/0 2/1 3/2 3/0 3/", PRINTED, true),
         case(true, "", &["refused 2 0 0 0 0"], true),
         case(true, "5", &["refused 2 1 0 0 0"], true),
         case(true, "05/", &["refused 2 1 0 0 0"], true),
@@ -96,6 +95,23 @@ pub fn cases() -> Vec<Case> {
     let mut repeated = case(false, &(widest() + "0 64/"), &["refused 4 0 0 0 0"], true);
     repeated.shown = "the same and 0 64/ once more".to_string();
     cases.push(repeated);
+
+    // The longest sheet, the longest with line feeds alone, and a byte more.
+    for (end, more, says, whole) in [
+        ("</", "", &["accepted 132 1 2"], false),
+        ("</", "1", &["refused 1 0 0 0 0"], true),
+        ("/", "", &["accepted 132 1 2"], false),
+        ("/", "1", &["refused 2 32773 0 0 0"], true),
+    ] {
+        let order = format!("126 127{end}");
+        let shown = format!("128{end}") + &order.repeat(MOST_ORDERS) + more;
+        let mut long = case(false, &shown, says, whole);
+        long.shown = format!(
+            "sheet 128{end}, {MOST_ORDERS} times {order} and \"{more}\", {} bytes",
+            shown.len()
+        );
+        cases.push(long);
+    }
 
     cases.push(record_case(&[0x03, 0x81, 0x01, 0x00]));
     cases.push(record_case(&[0x03, 0x01, 0x00, 0x00]));
@@ -144,6 +160,29 @@ pub fn cases() -> Vec<Case> {
         ],
         true,
     ));
+
+    // Line ends: of the printed sheet, then a carriage return that is no part of
+    // one.
+    for shown in [
+        "5</0 1</0 2</1 3</2 3</0 3</",
+        "5/0 1</0 2/1 3</2 3/0 3</",
+        "5</0 1/0 2/1 3</2 3</0 3/",
+    ] {
+        cases.push(case(false, shown, PRINTED, true));
+    }
+    let broken: [(&str, &[&str]); 8] = [
+        ("5<", &["refused 2 2 0 0 0"]),
+        ("5<</", &["refused 2 2 0 0 0"]),
+        ("<", &["refused 2 0 0 0 0"]),
+        ("</", &["refused 2 0 0 0 0"]),
+        ("<5/", &["refused 2 0 0 0 0"]),
+        ("0< ", &["refused 2 2 0 0 0"]),
+        ("5/0 1<", &["refused 2 6 0 0 0"]),
+        ("5</0 1</0< 2</", &["refused 2 9 0 0 0"]),
+    ];
+    for (shown, says) in broken {
+        cases.push(case(false, shown, says, true));
+    }
     cases
 }
 

@@ -1,5 +1,6 @@
 //! The analysis of order sheets and pair lists, and the record reader, written
-//! from document 01 alone by the plainest search its words allow.
+//! from document 01 and request A.1 alone by the plainest search their words
+//! allow.
 
 pub mod cases;
 pub mod order;
@@ -11,7 +12,7 @@ use tree::Tree;
 
 pub const MOST_JOBS: usize = 128;
 pub const MOST_ORDERS: usize = 4096;
-pub const LONGEST_SHEET: usize = 32_772;
+pub const LONGEST_SHEET: usize = 36_869;
 pub const LONGEST_RECORD: usize = 272;
 
 /// An answer and what is written: on refusal (`number` other than 0) the lists

@@ -1,7 +1,7 @@
 //! `second` reads a sheet from standard input and prints what `ordersheet`
 //! would; `second --record` reads a record and prints what it gives; `second
-//! --cases` prints document 01's cases with their answers, one to a line, a line
-//! feed within an answer shown as `/`.
+//! --cases` prints the papers' cases with their answers, one to a line, a line
+//! feed within a sheet or an answer shown as `/`, a carriage return as `<`.
 
 use second::{cases, printed, read_record, LONGEST_SHEET, MOST_ORDERS};
 use std::io::{self, Read, Write};

@@ -1,7 +1,9 @@
 //! The sheet's line form.
 
-const LINE_FEED: u8 = 0x0a;
 const SPACE: u8 = 0x20;
+
+/// What a line may end in: a line feed, or carriage return and line feed.
+const ENDS: [&[u8]; 2] = [&[0x0a], &[0x0d, 0x0a]];
 
 /// One to three digits and no leading zero, except 0 itself.
 fn is_number(text: &[u8]) -> bool {
@@ -14,14 +16,14 @@ fn fields(text: &[u8]) -> Vec<&[u8]> {
     text.split(|&byte| byte == SPACE).collect()
 }
 
-/// A whole line but for its line feed: so many numbers with one space between.
-fn is_line(text: &[u8], numbers: usize) -> bool {
+/// A whole line but for its end: so many numbers with one space between.
+fn is_content(text: &[u8], numbers: usize) -> bool {
     let fields = fields(text);
     fields.len() == numbers && fields.iter().all(|field| is_number(field))
 }
 
-/// Whether some line of so many numbers begins with the text.
-fn begins_line(text: &[u8], numbers: usize) -> bool {
+/// Whether the content of some line of so many numbers begins with the text.
+fn begins_content(text: &[u8], numbers: usize) -> bool {
     let fields = fields(text);
     let (last, full) = fields.split_last().unwrap();
     fields.len() <= numbers
@@ -29,8 +31,26 @@ fn begins_line(text: &[u8], numbers: usize) -> bool {
         && (last.is_empty() || is_number(last))
 }
 
-fn numbers_of(line: &[u8]) -> Vec<usize> {
-    fields(line)
+/// The content of a whole line of so many numbers, its end taken off.
+fn content(text: &[u8], numbers: usize) -> Option<&[u8]> {
+    ENDS.iter()
+        .filter_map(|end| text.strip_suffix(*end))
+        .find(|content| is_content(content, numbers))
+}
+
+/// Whether some line of so many numbers begins with the text: the text begins
+/// a content, or is a whole one and the beginning of an end.
+fn begins_line(text: &[u8], numbers: usize) -> bool {
+    let within_end = |end: &[u8]| {
+        (0..=end.len())
+            .filter_map(|length| text.strip_suffix(&end[..length]))
+            .any(|content| is_content(content, numbers))
+    };
+    begins_content(text, numbers) || ENDS.iter().any(|end| within_end(end))
+}
+
+fn numbers_of(content: &[u8]) -> Vec<usize> {
+    fields(content)
         .iter()
         .map(|field| {
             field
@@ -44,15 +64,13 @@ fn numbers_of(line: &[u8]) -> Vec<usize> {
 pub fn read(sheet: &[u8]) -> Result<(usize, Vec<(usize, usize)>), usize> {
     let mut lines: Vec<Vec<usize>> = Vec::new();
     let mut start = 0;
-    for (at, &byte) in sheet.iter().enumerate() {
+    for at in 0..sheet.len() {
         let numbers = if lines.is_empty() { 1 } else { 2 };
-        if byte == LINE_FEED {
-            if !is_line(&sheet[start..at], numbers) {
-                return Err(at);
-            }
-            lines.push(numbers_of(&sheet[start..at]));
+        let text = &sheet[start..=at];
+        if let Some(content) = content(text, numbers) {
+            lines.push(numbers_of(content));
             start = at + 1;
-        } else if !begins_line(&sheet[start..=at], numbers) {
+        } else if !begins_line(text, numbers) {
             return Err(at);
         }
     }

@@ -1,7 +1,9 @@
-//! What document 01 says of single sheets, lists and records.
+//! What document 01 and request A.1 say of single sheets, lists and records.
 
 use second::cases::{cases, sheet, widest};
-use second::{analyse_pairs, analyse_sheet, packed, printed, read_record, Outcome};
+use second::{
+    analyse_pairs, analyse_sheet, packed, printed, read_record, Outcome, LONGEST_SHEET, MOST_ORDERS,
+};
 
 const ENOUGH: (usize, usize) = (272, 8192);
 
@@ -64,41 +66,55 @@ fn seen_orders_that_are_no_n() {
 
 #[test]
 fn sheet_length() {
-    let mut longest = "128\n".to_string();
-    for _ in 0..4096 {
-        longest += "126 127\n";
+    assert_eq!(LONGEST_SHEET, 36_869);
+    let longest = "128</".to_string() + &"126 127</".repeat(MOST_ORDERS);
+    assert_eq!(longest.len(), LONGEST_SHEET);
+    assert_eq!(analysed(&longest).number, 0);
+    for more in ["x", "<", "/", "</", "1 2/"] {
+        let too_long = longest.clone() + more;
+        refused(&analysed(&too_long), 1, [0; 4]);
+        assert_eq!(printed(&sheet(&too_long)), b"refused 1 0 0 0 0\n");
     }
-    assert_eq!(longest.len(), 32_772);
-    assert_eq!(analyse_sheet(longest.as_bytes(), 272, 8192).number, 0);
-    longest += "x";
-    refused(&analyse_sheet(longest.as_bytes(), 272, 8192), 1, [0; 4]);
-    assert_eq!(printed(longest.as_bytes()), b"refused 1 0 0 0 0\n");
-    let broken = "126 127\n".repeat(4096) + "1 20";
-    refused(
-        &analyse_sheet(broken.as_bytes(), 272, 8192),
-        2,
-        [3, 0, 0, 0],
-    );
-    let stops_short = "128\n".to_string() + &"126 127\n".repeat(4095) + "126 1271";
-    refused(
-        &analyse_sheet(stops_short.as_bytes(), 272, 8192),
-        2,
-        [32_771, 0, 0, 0],
-    );
-    let stops_short = "999\n".to_string() + &"126 127\n".repeat(4095) + "12 1271";
-    assert_eq!(stops_short.len(), 32_771);
-    refused(
-        &analyse_sheet(stops_short.as_bytes(), 272, 8192),
-        2,
-        [32_770, 0, 0, 0],
-    );
-    let stops_short = "99\n".to_string() + &"126 127\n".repeat(4096) + "1";
-    assert_eq!(stops_short.len(), 32_772);
-    refused(
-        &analyse_sheet(stops_short.as_bytes(), 272, 8192),
-        2,
-        [32_772, 0, 0, 0],
-    );
+    // Broken and too long, then broken and as long as the longest.
+    refused(&analysed(&"<".repeat(LONGEST_SHEET + 1)), 1, [0; 4]);
+    refused(&analysed(&"<".repeat(LONGEST_SHEET)), 2, [0; 4]);
+    let broken = "126 127</".repeat(MOST_ORDERS) + "1 20<";
+    assert_eq!(broken.len(), LONGEST_SHEET);
+    refused(&analysed(&broken), 2, [3, 0, 0, 0]);
+
+    let last = LONGEST_SHEET as u64;
+    let all_but_one = "126 127</".repeat(MOST_ORDERS - 1);
+    for (count, order, place) in [
+        ("128</", "126 127<", last - 1),
+        ("128</", "126 1271/", last - 2),
+        ("128</", "126 127<<", last - 1),
+        ("128</", "126 127< ", last - 1),
+        ("999</", "12 1271<", last - 3),
+        ("99</", "126 127</1", last),
+        ("99</", "126 127</<", last - 1),
+        ("99/", "126 127</1<", last - 1),
+    ] {
+        let shown = count.to_string() + &all_but_one + order;
+        refused(&analysed(&shown), 2, [place, 0, 0, 0]);
+    }
+}
+
+/// The longest sheet with line feeds alone, and with some carriage returns.
+#[test]
+fn shorter_line_ends() {
+    let shown = "128/".to_string() + &"126 127/".repeat(MOST_ORDERS);
+    assert_eq!(shown.len(), 32_772);
+    let outcome = analysed(&shown);
+    assert_eq!(outcome.number, 0);
+    for carriage_returns in [1, 2, MOST_ORDERS, MOST_ORDERS + 1] {
+        let shown = shown.replacen('/', "</", carriage_returns);
+        assert_eq!(shown.len(), 32_772 + carriage_returns);
+        assert_eq!(analysed(&shown), outcome);
+    }
+    for (more, place) in [("1", 32_773), ("<", 32_772), ("/", 32_772), ("x", 32_772)] {
+        refused(&analysed(&(shown.clone() + more)), 2, [place, 0, 0, 0]);
+    }
+    refused(&analysed(&(shown + "1 2/")), 4, [0; 4]);
 }
 
 #[test]
@@ -122,7 +138,6 @@ fn line_form() {
         ("5/0 1/2 ", 8),
         ("5 /", 1),
         ("5 1/", 1),
-        ("5\r/", 1),
         ("5/0\t1/", 3),
         ("0/x", 2),
         ("999/9 x", 6),
@@ -131,6 +146,79 @@ fn line_form() {
     }
     refused(&analysed("999/999 999/"), 3, [0; 4]);
     refused(&analysed("128/127 128/"), 5, [0; 4]);
+}
+
+#[test]
+fn carriage_returns() {
+    for (shown, place) in [
+        ("<", 0),
+        ("</", 0),
+        ("<5/", 0),
+        ("5<", 2),
+        ("5<<", 2),
+        ("5<</", 2),
+        ("5< /", 2),
+        ("5<0 1/", 2),
+        ("5<x", 2),
+        ("0< ", 2),
+        ("12<3/", 3),
+        ("1234</", 3),
+        ("05</", 1),
+        ("5 </", 1),
+        ("5/<", 2),
+        ("5/</", 2),
+        ("5/<0 1/", 2),
+        ("5</</", 3),
+        ("5<//", 3),
+        ("5/0<", 3),
+        ("5/0</", 3),
+        ("5/0< 1/", 3),
+        ("5/0 </", 4),
+        ("5/0 <1/", 4),
+        ("5/0 1<", 6),
+        ("5/0 1< ", 6),
+        ("5/0 1<2/", 6),
+        ("5/0 1<</", 6),
+        ("5/0 1 </", 5),
+        ("5/0 1/<", 6),
+        ("5</0 1</<", 8),
+        ("5</0 1</2", 9),
+        ("5</0 1</2 ", 10),
+        ("5</0 1</2 3", 11),
+        ("5</0 1</2 3<", 12),
+        ("5<0 1<", 2),
+        ("0</x", 3),
+        ("999</9 x</", 7),
+    ] {
+        refused(&analysed(shown), 2, [place, 0, 0, 0]);
+    }
+    refused(&analysed("0</"), 3, [0; 4]);
+    refused(&analysed("999</999 999/"), 3, [0; 4]);
+    refused(&analysed("2</1 1</0 2/"), 5, [1, 0, 0, 0]);
+    refused(&analysed("2/0 1</1 1</"), 6, [1, 0, 0, 0]);
+    refused(&analysed("3/1 2</2 1/"), 7, [1, 0, 0, 0]);
+    refused(&analysed("4</0 2/1 2</1 3/"), 8, [0, 1, 2, 3]);
+}
+
+#[test]
+fn every_mixture_of_line_ends() {
+    for shown in [
+        "5/0 1/0 2/1 3/2 3/0 3/",
+        "3/1 2/2 1/",
+        "4/0 2/1 2/1 3/",
+        "5/",
+    ] {
+        let parts: Vec<&str> = shown.split('/').collect();
+        let lines = parts.len() - 1;
+        for mixture in 0..1 << lines {
+            let line = |i: usize| {
+                let end = if mixture >> i & 1 == 1 { "</" } else { "/" };
+                parts[i].to_string() + end
+            };
+            let mixed: String = (0..lines).map(line).collect();
+            assert_eq!(analysed(&mixed), analysed(shown), "{mixed}");
+        }
+    }
 }
 
 #[test]
@@ -155,6 +243,11 @@ fn checking_order() {
         &analysed(&("2/".to_string() + &"0 1/".repeat(4097) + "x")),
         2,
         [16_390, 0, 0, 0],
+    );
+    refused(
+        &analysed(&("2</".to_string() + &"0 1</".repeat(4097) + "<")),
+        2,
+        [20_488, 0, 0, 0],
     );
 }
 
@@ -220,6 +313,7 @@ fn packing() {
     assert_eq!(packed(8, [0, 1, 2, 3]), 0x0003_0200_0100_0008);
     assert_eq!(packed(0, [272, 4096, 127, 0]), 0x0000_7f10_0001_1000);
     assert_eq!(packed(2, [32_772, 0, 0, 0]), 0x80_0402);
+    assert_eq!(packed(2, [36_869, 0, 0, 0]), 0x90_0502);
 }
 
 #[test]

@@ -3,7 +3,7 @@
 use second::order::{before, first_n, free, reduced, Before};
 use second::tree::{of_order, Tree};
 use second::{analyse_pairs, read_record, record, sheet};
-use std::collections::{BTreeMap, BTreeSet};
+use std::collections::{BTreeMap, BTreeSet, HashSet};
 
 /// Every tree on the jobs, plain or not.
 fn all_trees(jobs: &[usize]) -> Vec<Tree> {
@@ -249,6 +249,7 @@ fn has_form(text: &[u8]) -> bool {
     body.split(|&byte| byte == b'\n')
         .enumerate()
         .all(|(line, text)| {
+            let text = text.strip_suffix(b"\r").unwrap_or(text);
             let fields: Vec<&[u8]> = text.split(|&byte| byte == b' ').collect();
             fields.len() == if line == 0 { 1 } else { 2 }
                 && fields.iter().all(|field| number(field))
@@ -263,23 +264,103 @@ fn begins_form(text: &[u8]) -> bool {
         .any(|ending| has_form(&[text, ending].concat()))
 }
 
+/// Every text of so many letters.
+fn texts(letters: &'static [u8], length: u32) -> impl Iterator<Item = Vec<u8>> {
+    (0..letters.len().pow(length)).map(move |mut choice| {
+        let mut text = Vec::new();
+        for _ in 0..length {
+            text.push(letters[choice % letters.len()]);
+            choice /= letters.len();
+        }
+        text
+    })
+}
+
 #[test]
 fn place_of_a_broken_line_on_every_short_text() {
-    let letters = b"019 \n-";
-    for length in 0..=8u32 {
-        for choice in 0..letters.len().pow(length) {
-            let mut choice = choice;
-            let mut text = Vec::new();
-            for _ in 0..length {
-                text.push(letters[choice % letters.len()]);
-                choice /= letters.len();
-            }
+    for length in 0..=8 {
+        for text in texts(b"019 \r\n-", length) {
             let expected = if has_form(&text) {
                 None
             } else {
                 Some(
                     (0..text.len())
                         .find(|&at| !begins_form(&text[..=at]))
+                        .unwrap_or(text.len()),
+                )
+            };
+            assert_eq!(
+                sheet::read(&text).err(),
+                expected,
+                "{:?}",
+                text.escape_ascii().to_string()
+            );
+        }
+    }
+}
+
+/// Every text of the form of up to so many bytes that has no digits but 0, 1 and
+/// 5, put together from its lines, with the numbers on them.
+fn all_of_form(longest: usize) -> Vec<(Vec<u8>, Vec<usize>)> {
+    let two_digits = [1, 5].map(|first| [0, 1, 5].map(|second| 10 * first + second));
+    let three_digits = two_digits
+        .concat()
+        .into_iter()
+        .flat_map(|first| [0, 1, 5].map(|second| 10 * first + second));
+    let mut numbers = vec![0, 1, 5];
+    numbers.extend(two_digits.concat());
+    numbers.extend(three_digits);
+
+    let mut whole = Vec::new();
+    let mut orders = Vec::new();
+    for end in ["\n", "\r\n"] {
+        for &u in &numbers {
+            whole.push((format!("{u}{end}"), vec![u]));
+            for &v in &numbers {
+                orders.push((format!("{u} {v}{end}"), vec![u, v]));
+            }
+        }
+    }
+    let mut done = 0;
+    while done < whole.len() {
+        let (text, listed) = whole[done].clone();
+        for (line, order) in &orders {
+            if text.len() + line.len() <= longest {
+                whole.push((text.clone() + line, [&listed[..], order].concat()));
+            }
+        }
+        done += 1;
+    }
+    whole
+        .into_iter()
+        .map(|(text, listed)| (text.into_bytes(), listed))
+        .collect()
+}
+
+#[test]
+fn place_of_a_broken_line_by_the_texts_that_begin_so() {
+    let longest = 8;
+    // No beginning is more than three bytes short of a whole text.
+    let of_form = all_of_form(longest + 3);
+    let mut beginnings = HashSet::new();
+    for (text, listed) in &of_form {
+        let (count, orders) = sheet::read(text).unwrap();
+        let mut read = vec![count];
+        read.extend(orders.iter().flat_map(|&(u, v)| [u, v]));
+        assert_eq!(read, *listed);
+        for length in 0..=text.len().min(longest) {
+            beginnings.insert(text[..length].to_vec());
+        }
+    }
+    let of_form: HashSet<Vec<u8>> = of_form.into_iter().map(|(text, _)| text).collect();
+    for length in 0..=longest {
+        for text in texts(b"015 \r\n-", length as u32) {
+            let expected = if of_form.contains(&text) {
+                None
+            } else {
+                Some(
+                    (0..text.len())
+                        .find(|&at| !beginnings.contains(&text[..=at]))
                         .unwrap_or(text.len()),
                 )
             };

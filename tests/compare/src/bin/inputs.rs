@@ -1,8 +1,8 @@
 //! `inputs DIR` writes some hundred sheets into the directory, one to a file:
-//! document 01's cases, and orders of every kind from a fixed seed.
+//! the papers' cases, and orders of every kind from a fixed seed.
 
 use compare::generate::*;
-use second::cases;
+use second::{cases, LONGEST_SHEET};
 use std::{env, fs, io, path::Path};
 
 fn sheets() -> Vec<Vec<u8>> {
@@ -28,6 +28,9 @@ fn sheets() -> Vec<Vec<u8>> {
             orders.push((rng.below(count), rng.below(count + 1)));
         }
         let mut text = sheet(count, &orders);
+        if round % 2 == 1 {
+            text = any_end(&mut rng, &text);
+        }
         if round % 5 == 2 {
             edit(&mut rng, &mut text);
         }
@@ -40,7 +43,7 @@ fn sheets() -> Vec<Vec<u8>> {
             .copied()
             .collect(),
     );
-    sheets.push(b"1".repeat(40_000));
+    sheets.push(b"1".repeat(LONGEST_SHEET + 1));
     sheets
 }
 
