@@ -6,6 +6,7 @@ use lib.ListN.{length}
 use Rattle.sheet.specs.Reading.{ReadsArc}
 use Rattle.sheet.specs.declared.line.Line.{Line}
 use Rattle.sheet.specs.declared.line.Line.the-variants as line
+use Rattle.sheet.proofs.Reading.{arc-within, fault-within}
 use Rattle.sheet.proofs.Lines.{Going, going-start, going-length, going-on, going-done, going-broken}
 use borrow.Author.Needs.{needs}
 use Rattle.sheet.proofs.read_lines.Statement.{statement}
@@ -45,15 +46,17 @@ add-arcs : tie.Need-add-arcs Inv-loop μ-loop
 add-arcs c =
     let f = c .before .before .before .before .before in
     let l = f .before .before .before .before in
-    omega (arith, arc f .within, l .loop .inv .few, l .before .before .before .good)
+    omega (arith, arc-within (l .loop .inv .within) (arc f), l .loop .inv .few, l .before .before .before .good)
 
 add-at : tie.Need-add-at Inv-loop μ-loop
 add-at c =
     let f = c .before .before .before .before .before in
-    omega (arith, arc f .within, f .before .before .before .before .before .before .before .good)
+    omega (arith, arc-within (f .before .before .before .before .loop .inv .within) (arc f), f .before .before .before .before .before .before .before .good)
 
 loop-less : tie.Need-loop-less Inv-loop μ-loop
-loop-less c = omega (arith, arc (c .before .before .before .before .before) .within)
+loop-less c =
+    let f = c .before .before .before .before .before in
+    omega (arith, arc-within (f .before .before .before .before .loop .inv .within) (arc f))
 
 loop-again : tie.Need-loop-again Inv-loop μ-loop
 loop-again c =
@@ -64,13 +67,17 @@ enum-known-found-2 : tie.Need-enum-known-found-2 Inv-loop μ-loop
 enum-known-found-2 c = search needs
 
 add-t17 : tie.Need-add-t17 Inv-loop μ-loop
-add-t17 c = omega (arith, fault (c .before) .within, c .before .before .before .before .before .before .before .before .pre)
+add-t17 c =
+    let f = c .before in
+    omega (arith, fault-within (f .before .before .before .before .loop .inv .within) (fault f), f .before .before .before .before .before .before .before .pre)
 
 same-length : tie.Need-same-length Inv-loop μ-loop
 same-length c = going-length (c .before .before .before .before .before .loop .inv)
 
 returns : tie.Need-returns Inv-loop μ-loop
-returns c = going-broken (c .before .before .before .before .before .loop .inv) (fault (c .before))
+returns c =
+    let l = c .before .before .before .before .before in
+    going-broken (l .loop .inv) (c .before .before .before .before .loop-test .taken) (fault (c .before))
 
 same-length-2 : tie.Need-same-length-2 Inv-loop μ-loop
 same-length-2 c = going-length (c .before .loop .inv)
