@@ -45,11 +45,15 @@ static inline const uint8_t *number(const uint8_t *p, unsigned *x) {
 }
 
 // Whether a line ends at q, in a line feed or in a carriage return and a line feed. Then q goes to its last byte, else to the byte that breaks it.
-// The branches are predicted: a place that is computed from the byte would hold up the next line.
-static inline int ends(const uint8_t **q) { return **q == '\n' || (**q == '\r' && *++*q == '\n'); }
+// crlf: the second is expected, else the first. A branch that is predicted: a place computed from the byte would hold up the next line.
+static inline int ends(const uint8_t **q, int crlf) {
+    if (crlf) return __builtin_expect(**q == '\r', 1) ? *++*q == '\n' : **q == '\n';
+    return __builtin_expect(**q == '\n', 1) || (**q == '\r' && *++*q == '\n');
+}
 
-// Order lines from f->at on, each into the table, until stop; whether the form holds. LINE bytes are there from every place ahead of stop.
-static inline int lines(scan *f, const uint8_t *stop, set *after) {
+// Order lines from f->at on, each into the table, until stop; whether the form holds. LINE bytes are there from every place ahead of stop. In line, so that
+// there is a loop for each line end that is expected.
+static inline __attribute__((always_inline)) int lines(scan *f, const uint8_t *stop, set *after, int crlf) {
     const uint8_t *p = f->at, *q;
     unsigned x, y, n = f->n, m = f->orders;
     while (p < stop) {
@@ -57,7 +61,7 @@ static inline int lines(scan *f, const uint8_t *stop, set *after) {
         if (q == p || *q != ' ') goto broken;
         p = q + 1;
         q = number(p, &y);
-        if (q == p || !ends(&q)) goto broken;
+        if (q == p || !ends(&q, crlf)) goto broken;
         p = q + 1;
         m++;
         if (x >= n || y >= n) {
@@ -245,15 +249,16 @@ uint64_t NAME(const uint8_t *sheet, size_t len, uint8_t *record, size_t record_r
     unsigned n = 0;
     set after[128];
     const uint8_t *p = number(from, &n);
-    if (p == from || !ends(&p)) return answer(2, p - from, 0, 0, 0);
+    if (p == from || !ends(&p, 0)) return answer(2, p - from, 0, 0, 0);
     scan f = {n <= 128 ? n : 0, 0, 0, 0, p + 1};
     memset(after, 0, f.n * sizeof *after);
     if (len >= LINE) {
-        if (!lines(&f, sheet + (len - LINE + 1), after)) return answer(2, f.at - sheet, 0, 0, 0);
+        const uint8_t *stop = sheet + (len - LINE + 1);
+        if (!(p[-1] == '\r' ? lines(&f, stop, after, 1) : lines(&f, stop, after, 0))) return answer(2, f.at - sheet, 0, 0, 0);
         start = f.at - sheet;
         from = f.at = memcpy(tail, f.at, len - start);
     }
-    if (!lines(&f, from + (len - start), after)) return answer(2, start + (f.at - from), 0, 0, 0);
+    if (!lines(&f, from + (len - start), after, 0)) return answer(2, start + (f.at - from), 0, 0, 0);
 
     if (f.n == 0) return 3;
     if (f.orders > 4096) return 4;
