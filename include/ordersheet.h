@@ -8,7 +8,7 @@
  * The others are refusals, tested in the order 1 to 10 for a sheet and 11, 10 for a record. A place that is not
  * named here is 0. Orders, jobs and bytes are counted from 0.
  *
- *      1  the sheet is longer than 32,772 bytes
+ *      1  the sheet is longer than ORDERSHEET_SHEET bytes
  *      2  the sheet breaks the line form; first: the byte where it does, or the sheet's length where it stops short
  *      3  the job count is 0 or above 128
  *      4  there are more than 4,096 orders, repeats counted
@@ -40,7 +40,7 @@ extern "C" {
 #endif
 
 #define ORDERSHEET_JOBS 128           /* the most jobs */
-#define ORDERSHEET_SHEET 32772        /* bytes of the longest sheet */
+#define ORDERSHEET_SHEET 36869        /* bytes of the longest sheet */
 #define ORDERSHEET_RECORD_AREA 272    /* bytes of the longest record */
 #define ORDERSHEET_REDUCED_AREA 8192  /* two bytes for each of the most reduced orders, 4,096 */
 #define ORDERSHEET_STACK 65536        /* bytes of stack that are enough for a call */

@@ -1,4 +1,5 @@
 // Makes the sheets that the benchmark runs on, the same each time: sheets DIR writes DIR/NAME.sheet and prints the names in the table's order.
+// sheets DIR crlf writes them with carriage return and line feed at each line's end, and one more with either end.
 #include <stdint.h>
 #include <stdio.h>
 #include <stdlib.h>
@@ -9,6 +10,7 @@ static const char *dir;
 static int orders[MOST][2], count;
 static int name_of[JOBS];          // the job that a position stands for
 static char before[JOBS][JOBS];    // an order over positions
+static enum { LF, CRLF, EITHER } ends;
 
 static unsigned below(unsigned n) {   // xorshift, from a fixed seed
     static uint64_t s = 20240607;
@@ -37,15 +39,20 @@ static FILE *open_sheet(const char *name) {
     puts(name);
     return f;
 }
-static void text(const char *name, const char *t) { FILE *f = open_sheet(name); fputs(t, f); fclose(f); }
-// last: what stands for the last line feed
-static void sheet_ending(const char *name, int jobs, const char *last) {
+static const char *line_end(void) { return ends == CRLF || (ends == EITHER && below(2)) ? "\r\n" : "\n"; }
+static void text(const char *name, const char *t) {
     FILE *f = open_sheet(name);
-    fprintf(f, "%d%s", jobs, count ? "\n" : last);
-    for (int i = 0; i < count; i++) fprintf(f, "%d %d%s", orders[i][0], orders[i][1], i + 1 < count ? "\n" : last);
+    for (; *t; t++) if (*t == '\n') fputs(line_end(), f); else putc(*t, f);
     fclose(f);
 }
-static void sheet(const char *name, int jobs) { sheet_ending(name, jobs, "\n"); }
+// last: what stands for the last line's end, where it is not 0
+static void sheet_ending(const char *name, int jobs, const char *last) {
+    FILE *f = open_sheet(name);
+    fprintf(f, "%d%s", jobs, count || !last ? line_end() : last);
+    for (int i = 0; i < count; i++) fprintf(f, "%d %d%s", orders[i][0], orders[i][1], i + 1 < count || !last ? line_end() : last);
+    fclose(f);
+}
+static void sheet(const char *name, int jobs) { sheet_ending(name, jobs, 0); }
 
 // A random series-parallel order on the positions from lo up to hi. wide: the chance in 100 that a part is of its group's kind.
 static void series_parallel(int lo, int hi, int series, int wide) {
@@ -77,8 +84,9 @@ static void line(int most) {
 static void last_four(void) { add(124, 126); add(125, 126); add(125, 127); }
 
 int main(int argc, char **argv) {
-    if (argc != 2) return 1;
+    if (argc != 2 && (argc != 3 || strcmp(argv[2], "crlf"))) return 1;
     dir = argv[1];
+    ends = argc == 3 ? CRLF : LF;
     text("smallest", "1\n");
     text("example", "5\n0 1\n0 2\n1 3\n2 3\n0 3\n");
     text("five", "5\n0 2\n1 2\n1 3\n0 4\n4 3\n1 4\n");
@@ -101,5 +109,6 @@ int main(int argc, char **argv) {
     last_four(); sheet("crossed-late", 128);
     line(4095); add(127, 0); mix(); sheet("circle", 128);
     bipartite(); sheet_ending("broken-last", 128, " ");
+    if (ends == CRLF) { ends = EITHER; bipartite(); sheet("either", 128); }
     return 0;
 }

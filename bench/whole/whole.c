@@ -3,6 +3,8 @@
 #include "whole.h"
 #include <string.h>
 
+enum { LONGEST = 36869, LINE = 9 };   // the most bytes of a sheet, and of a line
+
 typedef struct { uint64_t w[2]; } set;
 
 static inline set both(set a, set b) { return (set){{a.w[0] & b.w[0], a.w[1] & b.w[1]}}; }
@@ -42,9 +44,16 @@ static inline const uint8_t *number(const uint8_t *p, unsigned *x) {
     return p + 3;
 }
 
-// Order lines from f->at on, each into the table, until stop; whether the form holds. A line has at most 8 bytes: 8 are there from every
-// place ahead of stop.
-static inline int lines(scan *f, const uint8_t *stop, set *after) {
+// Whether a line ends at q, in a line feed or in a carriage return and a line feed. Then q goes to its last byte, else to the byte that breaks it.
+// crlf: the second is expected, else the first. A branch that is predicted: a place computed from the byte would hold up the next line.
+static inline int ends(const uint8_t **q, int crlf) {
+    if (crlf) return __builtin_expect(**q == '\r', 1) ? *++*q == '\n' : **q == '\n';
+    return __builtin_expect(**q == '\n', 1) || (**q == '\r' && *++*q == '\n');
+}
+
+// Order lines from f->at on, each into the table, until stop; whether the form holds. LINE bytes are there from every place ahead of stop. In line, so that
+// there is a loop for each line end that is expected.
+static inline __attribute__((always_inline)) int lines(scan *f, const uint8_t *stop, set *after, int crlf) {
     const uint8_t *p = f->at, *q;
     unsigned x, y, n = f->n, m = f->orders;
     while (p < stop) {
@@ -52,7 +61,7 @@ static inline int lines(scan *f, const uint8_t *stop, set *after) {
         if (q == p || *q != ' ') goto broken;
         p = q + 1;
         q = number(p, &y);
-        if (q == p || *q != '\n') goto broken;
+        if (q == p || !ends(&q, crlf)) goto broken;
         p = q + 1;
         m++;
         if (x >= n || y >= n) {
@@ -230,25 +239,26 @@ static unsigned reduce(set *reduced, const set *after, unsigned n) {
 }
 
 uint64_t NAME(const uint8_t *sheet, size_t len, uint8_t *record, size_t record_room, uint8_t *area, size_t area_room) {
-    if (len > 32772) return 1;
-    // the last bytes of the sheet, fewer than 8, are read from here, with zeros after them
-    uint8_t tail[16] = {0};
+    if (len > LONGEST) return 1;
+    // the last bytes of the sheet, fewer than LINE, are read from here, with zeros after them
+    uint8_t tail[2 * LINE - 2] = {0};
     const uint8_t *from = sheet;
     size_t start = 0;
-    if (len < 8) from = memcpy(tail, sheet, len);
+    if (len < LINE) from = memcpy(tail, sheet, len);
 
     unsigned n = 0;
     set after[128];
     const uint8_t *p = number(from, &n);
-    if (p == from || *p != '\n') return answer(2, p - from, 0, 0, 0);
+    if (p == from || !ends(&p, 0)) return answer(2, p - from, 0, 0, 0);
     scan f = {n <= 128 ? n : 0, 0, 0, 0, p + 1};
     memset(after, 0, f.n * sizeof *after);
-    if (len >= 8) {
-        if (!lines(&f, sheet + len - 7, after)) return answer(2, f.at - sheet, 0, 0, 0);
+    if (len >= LINE) {
+        const uint8_t *stop = sheet + (len - LINE + 1);
+        if (!(p[-1] == '\r' ? lines(&f, stop, after, 1) : lines(&f, stop, after, 0))) return answer(2, f.at - sheet, 0, 0, 0);
         start = f.at - sheet;
         from = f.at = memcpy(tail, f.at, len - start);
     }
-    if (!lines(&f, from + (len - start), after)) return answer(2, start + (f.at - from), 0, 0, 0);
+    if (!lines(&f, from + (len - start), after, 0)) return answer(2, start + (f.at - from), 0, 0, 0);
 
     if (f.n == 0) return 3;
     if (f.orders > 4096) return 4;

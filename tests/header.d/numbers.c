@@ -14,6 +14,7 @@ static uint64_t (*const reread)(const uint8_t *, size_t, uint8_t *, size_t) = or
 
 enum { BEHIND = 64, FILL = 0xa5 }; /* bytes behind the longest area that stay as well, and what all are filled with */
 static char sheet[ORDERSHEET_SHEET + (1 << 16)];
+static const char *end = "\n"; /* of a line */
 static size_t length;
 static uint8_t record[ORDERSHEET_RECORD_AREA + BEHIND], reduced[ORDERSHEET_REDUCED_AREA + BEHIND], again[sizeof reduced];
 static unsigned passed, failed;
@@ -28,8 +29,8 @@ static void check(const char *name, const char *what, int holds)
     }
 }
 
-static void start(unsigned jobs) { length = (size_t)sprintf(sheet, "%u\n", jobs); }
-static void order(unsigned u, unsigned v) { length += (size_t)sprintf(sheet + length, "%u %u\n", u, v); }
+static void start(unsigned jobs) { length = (size_t)sprintf(sheet, "%u%s", jobs, end); }
+static void order(unsigned u, unsigned v) { length += (size_t)sprintf(sheet + length, "%u %u%s", u, v, end); }
 
 static uint64_t packed(uint64_t number, uint64_t first, uint64_t second, uint64_t third, uint64_t fourth)
 {
@@ -122,9 +123,11 @@ static void longest_sheet(void)
     refused("ORDERSHEET_SHEET, no sheet", ORDERSHEET_RECORD_AREA, ORDERSHEET_REDUCED_AREA, 2, 0, 0, 0, 0);
     length = ORDERSHEET_SHEET + 1;
     refused("ORDERSHEET_SHEET + 1, no sheet", ORDERSHEET_RECORD_AREA, ORDERSHEET_REDUCED_AREA, 1, 0, 0, 0, 0);
+    end = "\r\n";
     start(128);
     for (unsigned i = 0; i < 4096; i++)
         order(100 + i / 14 % 14, 114 + i % 14);
+    end = "\n";
     check("ORDERSHEET_SHEET", "the longest sheet has another length", length == ORDERSHEET_SHEET);
     accepted("the longest sheet", 134, 196, 4);
     length = ORDERSHEET_SHEET - 1;

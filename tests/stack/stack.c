@@ -14,6 +14,7 @@
 
 static uint8_t stack[1 << 20];
 static char sheet[1 << 16];
+static const char *end = "\n"; /* of a line */
 static size_t length;
 static uint8_t record[ORDERSHEET_RECORD_AREA], reduced[ORDERSHEET_REDUCED_AREA];
 static size_t bytes;
@@ -61,8 +62,8 @@ static void measure(const char *name, void (*call)(void), unsigned number)
         wrong = 1;
 }
 
-static void start(unsigned jobs) { length = (size_t)sprintf(sheet, "%u\n", jobs); }
-static void order(unsigned u, unsigned v) { length += (size_t)sprintf(sheet + length, "%u %u\n", u, v); }
+static void start(unsigned jobs) { length = (size_t)sprintf(sheet, "%u%s", jobs, end); }
+static void order(unsigned u, unsigned v) { length += (size_t)sprintf(sheet + length, "%u %u%s", u, v, end); }
 
 /* The sheet, and its record. */
 static void both(const char *name)
@@ -133,6 +134,7 @@ int main(void)
     both("one chain of 128");
     start(128);
     both("128 free jobs");
+    end = "\r\n";
     start(128);
     for (unsigned i = 0; i < 4096; i++)
         order(100 + i % 14, 114 + i % 14);
