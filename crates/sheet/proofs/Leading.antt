@@ -1,4 +1,4 @@
--- Bytes that lead from a state to another: one run after another, as a scan, and in a copy of the last bytes.
+-- Bytes that lead from a state to another: one run after another, as a scan, and in a copy.
 use Prim.Native.Nat.{ℕ, suc, _+_, _≤_, _<_}
 use mathlib.Core.Path.{_≡_, refl, sym, ap, subst, _∙_}
 use mathlib.Core.List.{List}
@@ -69,21 +69,18 @@ module _ {s : List ℕ} where
                 (scan-short (k .reached) (start + place) (k .unfinished (⊎-elim inl (λ (m : a < length s). inr (omega arith)) w)))
           ]
 
--- the same bytes elsewhere: those of p are those of s from a place on
+-- in bytes that are the same, zeros after them aside
 
-module _ {p s : List ℕ} (off : ℕ) (same : (i : ℕ) → getD p i 0 ≡ getD s (off + i) 0) where
-  pub leads-moved : {t u : State} {a b : ℕ} → Leads p t a u b → Leads s t (off + a) u (off + b)
-  leads-moved stay = stay
-  leads-moved {t} {u} {a} {b} (byte {u = w} z e k) =
-      let further : off + (a + 1) ≡ off + a + 1 = omega arith in
-      byte (subst (λ (x : ℕ). 0 < x) (same a) z) (ap (step t) (sym (same a)) ∙ e)
-      (subst (λ (x : ℕ). Leads s w x u (off + b)) further (leads-moved k))
+module _ {p s : List ℕ} (same : (i : ℕ) → getD p i 0 ≡ getD s i 0) where
+  pub leads-same : {t u : State} {a b : ℕ} → Leads p t a u b → Leads s t a u b
+  leads-same stay = stay
+  leads-same {t} {a = a} (byte z e k) = byte (subst (λ (x : ℕ). 0 < x) (same a) z) (ap (step t) (sym (same a)) ∙ e) (leads-same k)
 
-  pub breaks-moved : {t : State} {a place : ℕ} → Breaks p t a place → Breaks s t (off + a) (off + place)
-  breaks-moved {place = place} k = record {
+  pub breaks-same : {t : State} {a place : ℕ} → Breaks p t a place → Breaks s t a place
+  breaks-same {place = place} k = record {
     reached = k .reached;
-    leads = leads-moved (k .leads);
+    leads = leads-same (k .leads);
     same-line = k .same-line;
     stuck = ap (step (k .reached)) (sym (same place)) ∙ k .stuck;
-    unfinished = λ w. k .unfinished (⊎-elim inl (λ l. inr (omega arith)) w);
+    unfinished = k .unfinished;
   }

@@ -1,106 +1,100 @@
--- `sheet::read_lines` meets its contract. The loop's invariant: the arcs ahead of `at` are read and listed. Assumes nothing.
-use Prim.Native.Nat.{_-_}
-use mathlib.Core.Path.{subst}
+-- `sheet::read_lines` meets its contract. Assumes nothing.
+use mathlib.Core.Path.{ap, subst}
 use native.Mathlib.Omega.{arith}
-use lib.ListN.{length}
-use Rattle.sheet.specs.Reading.{ReadsArc}
-use Rattle.sheet.specs.declared.line.Line.{Line}
-use Rattle.sheet.specs.declared.line.Line.the-variants as line
-use Rattle.sheet.proofs.Reading.{arc-within, fault-within}
-use Rattle.sheet.proofs.Lines.{Going, going-start, going-length, going-on, going-done, going-broken}
+use lib.ListN.{length, length-drop}
+use Rattle.sheet.specs.Listing.{ReadsLines}
+use Rattle.sheet.specs.declared.Reached.{Reached}
+use Rattle.sheet.specs.declared.Reached.the-variants as reached
+use Rattle.sheet.proofs.Lines.{rest-of, lines-done, lines-broken}
 use borrow.Author.Needs.{needs}
 use Rattle.sheet.proofs.read_lines.Statement.{statement}
 use Rattle.sheet.proofs.read_lines.Tie as tie
 
-abbrev Inv-loop : tie.InvT-loop
-Inv-loop s start count list₀ at₀ arcs₀ list at arcs = Going s start count list₀ list at arcs
+-- what is said of the lines but the last
+abbrev Read : tie.After-lines-until → Reached → Type 0
+Read f =
+    let o = f .before .before .before .before .before in
+    ReadsLines (o .args .s .now) (f .before .before .last-start .result) 0 (o .args .list .now) (f .lines-until .last .1 .1 .1 .0)
 
-abbrev μ-loop : tie.MeasureT-loop
-μ-loop s start count list₀ at₀ arcs₀ list at arcs = length s - at
+most : (c : tie.After-found) → Read (c .before .before .before .before) (reached.At (c .found .given .0 .0) (c .found .given .0 .1 .0))
+most c = subst (Read (c .before .before .before .before)) (c .found .given .1) (c .before .before .before .before .lines-until .ensures)
 
-abbrev Read : tie.At-loop Inv-loop μ-loop → Line → Type 0
-Read c = ReadsArc (c .before .before .before .args .s .now) (c .loop .at)
+fault : (c : tie.After-found2) → Read (c .before .before .before .before) (reached.Broken (c .found2 .given .0 .0))
+fault c = subst (Read (c .before .before .before .before)) (c .found2 .given .1) (c .before .before .before .before .lines-until .ensures)
 
--- the line that was read
-arc
-    : (c : tie.After-found Inv-loop μ-loop)
-    → Read (c .before .before .before .before) (line.Arc (c .found .given .0 .0) (c .found .given .0 .1 .0) (c .found .given .0 .1 .1 .0))
-arc c = subst (Read (c .before .before .before .before)) (c .found .given .1) (c .before .before .order-line .ensures)
+last-start-requires : tie.Need-last-start-requires
+last-start-requires c κs = search needs
 
-fault : (c : tie.After-found2 Inv-loop μ-loop) → Read (c .before .before .before .before) (line.Broken (c .found2 .given .0 .0))
-fault c = subst (Read (c .before .before .before .before)) (c .found2 .given .1) (c .before .before .order-line .ensures)
+lines-until-requires : tie.Need-lines-until-requires
+lines-until-requires c κs = search needs
 
-loop-holds : tie.Need-loop-holds Inv-loop μ-loop
-loop-holds c = let a = c .before .before .args in going-start (a .s .now) (a .start) (a .count) (a .list .now)
-
-order-line-requires : tie.Need-order-line-requires Inv-loop μ-loop
-order-line-requires c κs = search needs
-
-enum-known-found : tie.Need-enum-known-found Inv-loop μ-loop
+enum-known-found : tie.Need-enum-known-found
 enum-known-found c = search needs
 
-put-arc-requires : tie.Need-put-arc-requires Inv-loop μ-loop
-put-arc-requires c κs = search needs
+sub-last-lines : tie.Need-sub-last-lines
+sub-last-lines c = most (c .before) .within .1
 
-add-arcs : tie.Need-add-arcs Inv-loop μ-loop
-add-arcs c =
-    let f = c .before .before .before .before .before in
-    let l = f .before .before .before .before in
-    omega (arith, arc-within (l .loop .inv .within) (arc f), l .loop .inv .few, l .before .before .before .good)
+part-last-lines-start : tie.Need-part-last-lines-start
+part-last-lines-start c = omega (arith, most (c .before) .within)
 
-add-at : tie.Need-add-at Inv-loop μ-loop
-add-at c =
-    let f = c .before .before .before .before .before in
-    omega (arith, arc-within (f .before .before .before .before .loop .inv .within) (arc f), f .before .before .before .before .before .before .before .good)
+part-last-lines-end : tie.Need-part-last-lines-end
+part-last-lines-end c = search needs
 
-loop-less : tie.Need-loop-less Inv-loop μ-loop
-loop-less c =
-    let f = c .before .before .before .before .before in
-    omega (arith, arc-within (f .before .before .before .before .loop .inv .within) (arc f))
+add-last-lines : tie.Need-add-last-lines
+add-last-lines c =
+    let k = c .before .before in
+    let o = k .before .before .before .before .before .before .before .before .before in
+    omega (arith, most k .within, o .pre)
 
-loop-again : tie.Need-loop-again Inv-loop μ-loop
-loop-again c =
-    let f = c .before .before .before .before .before in
-    going-on (f .before .before .before .before .loop .inv) (arc f) (c .before .before .put-arc .ensures)
+last-lines-requires : tie.Need-last-lines-requires
+last-lines-requires c κs =
+    let k = c .before .before .before in
+    let f = k .before .before .before .before in
+    let o = f .before .before .before .before .before in
+    let s = o .args .s .now in
+    let at = k .found .given .0 .0 in
+    omega (arith, most k .within, f .before .before .last-start .ensures, ap length (rest-of s at), length-drop at s, o .pre)
 
-enum-known-found-2 : tie.Need-enum-known-found-2 Inv-loop μ-loop
+enum-known-found-2 : tie.Need-enum-known-found-2
 enum-known-found-2 c = search needs
 
-add-t17 : tie.Need-add-t17 Inv-loop μ-loop
-add-t17 c =
-    let f = c .before in
-    omega (arith, fault-within (f .before .before .before .before .loop .inv .within) (fault f), f .before .before .before .before .before .before .before .pre)
+add-t21 : tie.Need-add-t21
+add-t21 c =
+    let o = c .before .before .before .before .before .before .before .before .before .before in
+    omega (arith, fault (c .before) .within, o .pre)
 
-same-length : tie.Need-same-length Inv-loop μ-loop
-same-length c = going-length (c .before .before .before .before .before .loop .inv)
+same-length : tie.Need-same-length
+same-length c = search needs
 
-returns : tie.Need-returns Inv-loop μ-loop
+returns : tie.Need-returns
 returns c =
-    let l = c .before .before .before .before .before in
-    going-broken (l .loop .inv) (c .before .before .before .before .loop-test .taken) (fault (c .before))
+    let k = c .before .before .before .before .before .before in
+    let o = k .before .before .before .before .before .before .before .before .before in
+    lines-done (o .args .start) (o .args .count) (most k) (rest-of (o .args .s .now) (k .found .given .0 .0)) (c .before .before .last-lines .ensures)
 
-same-length-2 : tie.Need-same-length-2 Inv-loop μ-loop
-same-length-2 c = going-length (c .before .loop .inv)
+same-length-2 : tie.Need-same-length-2
+same-length-2 c = search needs
 
-returns-2 : tie.Need-returns-2 Inv-loop μ-loop
-returns-2 c = going-done (c .before .loop .inv) (c .loop-test .left)
+returns-2 : tie.Need-returns-2
+returns-2 c =
+    let f = c .before .before .before .before .before in
+    let o = f .before .before .before .before .before in
+    lines-broken (o .args .start) (o .args .count) (omega (arith, f .before .before .last-start .ensures)) (fault (c .before))
 
 pub read-lines-spec : {M : Type 1} → statement M
 read-lines-spec =
     tie.close
     (tie.spec
-    Inv-loop
-    μ-loop
-    loop-holds
-    order-line-requires
+    last-start-requires
+    lines-until-requires
     enum-known-found
-    put-arc-requires
-    add-arcs
-    add-at
-    loop-less
-    loop-again
+    sub-last-lines
+    part-last-lines-start
+    part-last-lines-end
+    add-last-lines
+    last-lines-requires
     enum-known-found-2
-    add-t17
+    add-t21
     same-length
     returns
     same-length-2
