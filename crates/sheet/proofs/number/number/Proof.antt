@@ -18,28 +18,28 @@ add-digit c = search needs
 digit-requires-2 : tie.Need-digit-requires-2
 digit-requires-2 c κs = search needs
 
-cast-t10 : tie.Need-cast-t10
-cast-t10 c = search needs
+cast-t11 : tie.Need-cast-t11
+cast-t11 c = search needs
 
-add-t11 : tie.Need-add-t11
-add-t11 c = search needs
+add-t12 : tie.Need-add-t12
+add-t12 c = search needs
 
 returns-2 : tie.Need-returns-2
 returns-2 c =
     numeral-one (c .before .before .before .digit .ensures) (c .before .digit2 .ensures) (c .before .before .if1 .left)
     (⊎-elim (λ w. inl (w .taken)) (λ w. inr (eqb-true _ _ (w .1 .taken))) (c .if2 .came))
 
+mul-ab : tie.Need-mul-ab
+mul-ab c = search needs
+
+add-ab : tie.Need-add-ab
+add-ab c = search needs
+
 add-digit-2 : tie.Need-add-digit-2
 add-digit-2 c = search needs
 
 digit-requires-3 : tie.Need-digit-requires-3
 digit-requires-3 c κs = search needs
-
-mul-t12 : tie.Need-mul-t12
-mul-t12 c = search needs
-
-add-t13 : tie.Need-add-t13
-add-t13 c = search needs
 
 cast-t14 : tie.Need-cast-t14
 cast-t14 c = search needs
@@ -53,23 +53,17 @@ returns-3 c =
     numeral-two (d .before .before .digit .ensures) (d .digit2 .ensures) (d .before .if1 .left) (c .before .digit3 .ensures)
     (c .before .before .before .if2 .left) (eqb-false _ _ (c .before .before .if3 .left)) (c .if4 .taken)
 
-mul-t16 : tie.Need-mul-t16
-mul-t16 c = search needs
+mul-t13 : tie.Need-mul-t13
+mul-t13 c = search needs
 
-mul-t17 : tie.Need-mul-t17
-mul-t17 c = search needs
+add-t16 : tie.Need-add-t16
+add-t16 c = search needs
 
-add-t18 : tie.Need-add-t18
-add-t18 c = search needs
+cast-t17 : tie.Need-cast-t17
+cast-t17 c = search needs
 
-add-t19 : tie.Need-add-t19
-add-t19 c = search needs
-
-cast-t20 : tie.Need-cast-t20
-cast-t20 c = search needs
-
-add-t7 : tie.Need-add-t7
-add-t7 c = search needs
+add-t8 : tie.Need-add-t8
+add-t8 c = search needs
 
 returns-4 : tie.Need-returns-4
 returns-4 c =
@@ -85,20 +79,18 @@ number-spec =
     returns
     add-digit
     digit-requires-2
-    cast-t10
-    add-t11
+    cast-t11
+    add-t12
     returns-2
+    mul-ab
+    add-ab
     add-digit-2
     digit-requires-3
-    mul-t12
-    add-t13
     cast-t14
     add-t15
     returns-3
-    mul-t16
-    mul-t17
-    add-t18
-    add-t19
-    cast-t20
-    add-t7
+    mul-t13
+    add-t16
+    cast-t17
+    add-t8
     returns-4)
