@@ -45,7 +45,9 @@ module _ {s : List ℕ} where
       ∙ ap (λ (x : ℕ). scanFrom w (start + (a + 1)) (drop x s)) (sym (add-one a))
       ∙ leads-scan start k)
 
-  pub breaks-join : {t u : State} {a b place : ℕ} → Leads s t a u b → arcsAhead (fieldOf u) ≡ arcsAhead (fieldOf t) → whole u ≡ none → Breaks s u b place → Breaks s t a place
+  pub breaks-join
+      : {t u : State} {a b place : ℕ} → Leads s t a u b → arcsAhead (fieldOf u) ≡ arcsAhead (fieldOf t) → whole u ≡ none → Breaks s u b place
+      → Breaks s t a place
   breaks-join l e w k = record {
     reached = k .reached;
     leads = leads-join l (k .leads);

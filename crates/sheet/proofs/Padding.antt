@@ -23,7 +23,10 @@ copied-none s =
     record {
       size = size;
       these = λ j l. absurd (omega arith);
-      zeros = λ j l. elim (decLt j (2 * longestLine)) [ yes k ↦ getD-replicate {A = ℕ} (2 * longestLine) j 0 0 k | no k ↦ List·getD-eq-default none 0 {n = j} (omega (arith, size)) ];
+      zeros = λ j l. elim (decLt j (2 * longestLine)) [
+        | yes k ↦ getD-replicate {A = ℕ} (2 * longestLine) j 0 0 k
+        | no k ↦ List·getD-eq-default none 0 {n = j} (omega (arith, size))
+      ];
     }
 
 pub copied-more : {s r : List ℕ} {i : ℕ} → Copied s r i → i < 2 * longestLine → Copied s (set r i (getD s i 0)) (i + 1)
