@@ -9,7 +9,7 @@ use native.Mathlib.Numerals.{add-one}
 use native.Mathlib.Omega.{arith}
 use lib.ListN.{length, getD, drop, drop-of-length-le, List·getD-eq-default}
 use lib.Seq.{drop-cons}
-use Rattle.sheet.specs.Scan.{State, Read, broken, arcsAhead, fieldOf, step, whole, scanFrom}
+use Rattle.sheet.specs.Scan.{State, broken, arcsAhead, fieldOf, step, whole, scanFrom}
 use Rattle.sheet.specs.Reading.{Leads, stay, byte, Breaks}
 use Rattle.sheet.proofs.Scanning.{scan-step, scan-fault, scan-short}
 
