@@ -53,7 +53,7 @@ module _ {s : List ℕ} where
     leads = leads-join l (k .leads);
     same-line = k .same-line ∙ e;
     stuck = k .stuck;
-    unfinished = λ _. k .unfinished (inl w);
+    unfinished = λ _. ⊎-elim (k .unfinished) (λ h. subst (λ (x : State). whole x ≡ none) (h .1) w) (leads-on (k .leads));
   }
 
   pub breaks-scan
@@ -68,7 +68,9 @@ module _ {s : List ℕ} where
             | yes l ↦ rw (drop-cons s place 0 l) (scan-fault (k .reached) (start + place) (getD s place 0) (drop (suc place) s) (k .stuck))
             | no l ↦
                 rw (drop-of-length-le s {i = place} (omega arith))
-                (scan-short (k .reached) (start + place) (k .unfinished (⊎-elim inl (λ (m : a < length s). inr (omega arith)) w)))
+                (scan-short (k .reached) (start + place)
+                (⊎-elim (k .unfinished)
+                (λ h. subst (λ (x : State). whole x ≡ none) (h .1) (⊎-elim (λ e. e) (λ (m : a < length s). absurd (omega (arith, h .0))) w)) (leads-on (k .leads))))
           ]
 
 -- in bytes that are the same, zeros after them aside
