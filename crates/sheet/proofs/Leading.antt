@@ -9,7 +9,7 @@ use native.Mathlib.Numerals.{add-one}
 use native.Mathlib.Omega.{arith}
 use lib.ListN.{length, getD, drop, drop-of-length-le, List·getD-eq-default}
 use lib.Seq.{drop-cons}
-use Rattle.sheet.specs.Scan.{State, Read, broken, arcsAhead, fieldOf, step, whole, scanFrom}
+use Rattle.sheet.specs.Scan.{State, broken, arcsAhead, fieldOf, step, whole, scanFrom}
 use Rattle.sheet.specs.Reading.{Leads, stay, byte, Breaks}
 use Rattle.sheet.proofs.Scanning.{scan-step, scan-fault, scan-short}
 
@@ -45,13 +45,15 @@ module _ {s : List ℕ} where
       ∙ ap (λ (x : ℕ). scanFrom w (start + (a + 1)) (drop x s)) (sym (add-one a))
       ∙ leads-scan start k)
 
-  pub breaks-join : {t u : State} {a b place : ℕ} → Leads s t a u b → arcsAhead (fieldOf u) ≡ arcsAhead (fieldOf t) → whole u ≡ none → Breaks s u b place → Breaks s t a place
+  pub breaks-join
+      : {t u : State} {a b place : ℕ} → Leads s t a u b → arcsAhead (fieldOf u) ≡ arcsAhead (fieldOf t) → whole u ≡ none → Breaks s u b place
+      → Breaks s t a place
   breaks-join l e w k = record {
     reached = k .reached;
     leads = leads-join l (k .leads);
     same-line = k .same-line ∙ e;
     stuck = k .stuck;
-    unfinished = λ _. k .unfinished (inl w);
+    unfinished = λ _. ⊎-elim (k .unfinished) (λ h. subst (λ (x : State). whole x ≡ none) (h .1) w) (leads-on (k .leads));
   }
 
   pub breaks-scan
@@ -66,7 +68,9 @@ module _ {s : List ℕ} where
             | yes l ↦ rw (drop-cons s place 0 l) (scan-fault (k .reached) (start + place) (getD s place 0) (drop (suc place) s) (k .stuck))
             | no l ↦
                 rw (drop-of-length-le s {i = place} (omega arith))
-                (scan-short (k .reached) (start + place) (k .unfinished (⊎-elim inl (λ (m : a < length s). inr (omega arith)) w)))
+                (scan-short (k .reached) (start + place)
+                (⊎-elim (k .unfinished)
+                (λ h. subst (λ (x : State). whole x ≡ none) (h .1) (⊎-elim (λ e. e) (λ (m : a < length s). absurd (omega (arith, h .0))) w)) (leads-on (k .leads))))
           ]
 
 -- in bytes that are the same, zeros after them aside

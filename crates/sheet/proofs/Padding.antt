@@ -14,16 +14,19 @@ pub record Copied (s r : List ℕ) (i : ℕ) : Type 0 where
   pub these : (j : ℕ) → j < i → getD r j 0 ≡ getD s j 0
   pub zeros : (j : ℕ) → i ≤ j → getD r j 0 ≡ 0
 
-abbrev pub none : List ℕ
-none = replicate (2 * longestLine) 0
+abbrev pub blank : List ℕ
+blank = replicate (2 * longestLine) 0
 
-pub copied-none : (s : List ℕ) → Copied s none 0
+pub copied-none : (s : List ℕ) → Copied s blank 0
 copied-none s =
-    let size : length none ≡ 2 * longestLine = refl in
+    let size : length blank ≡ 2 * longestLine = refl in
     record {
       size = size;
       these = λ j l. absurd (omega arith);
-      zeros = λ j l. elim (decLt j (2 * longestLine)) [ yes k ↦ getD-replicate {A = ℕ} (2 * longestLine) j 0 0 k | no k ↦ List·getD-eq-default none 0 {n = j} (omega (arith, size)) ];
+      zeros = λ j l. elim (decLt j (2 * longestLine)) [
+        | yes k ↦ getD-replicate {A = ℕ} (2 * longestLine) j 0 0 k
+        | no k ↦ List·getD-eq-default blank 0 {n = j} (omega (arith, size))
+      ];
     }
 
 pub copied-more : {s r : List ℕ} {i : ℕ} → Copied s r i → i < 2 * longestLine → Copied s (set r i (getD s i 0)) (i + 1)

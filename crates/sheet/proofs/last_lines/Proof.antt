@@ -10,18 +10,17 @@ use borrow.Author.Needs.{needs}
 use Rattle.sheet.proofs.last_lines.Statement.{statement}
 use Rattle.sheet.proofs.last_lines.Tie as tie
 
--- what was read
-all : (c : tie.After-found) → let f = c .before .before .before .before in
-    ReadsLines (f .before .before .before .padded .result) (length (f .before .before .before .before .before .before .args .s .now))
-    (f .before .before .before .before .before .before .args .ahead) (f .before .before .before .before .before .before .args .list .now) (f .lines-until .last .1 .1 .1 .0)
-    (reached.At (c .found .given .0 .0) (c .found .given .0 .1 .0))
-all c = subst (ReadsLines _ _ _ _ _) (c .found .given .1) (c .before .before .before .before .lines-until .ensures)
+-- what is said of the lines in the copy
+abbrev Read : tie.After-lines-until → Reached → Type 0
+Read f =
+    let o = f .before .before .before .before .before .before in
+    ReadsLines (f .before .before .before .padded .result) (length (o .args .s .now)) (o .args .ahead) (o .args .list .now) (f .lines-until .last .1 .1 .1 .0)
 
-fault : (c : tie.After-found2) → let f = c .before .before .before .before in
-    ReadsLines (f .before .before .before .padded .result) (length (f .before .before .before .before .before .before .args .s .now))
-    (f .before .before .before .before .before .before .args .ahead) (f .before .before .before .before .before .before .args .list .now) (f .lines-until .last .1 .1 .1 .0)
-    (reached.Broken (c .found2 .given .0 .0))
-fault c = subst (ReadsLines _ _ _ _ _) (c .found2 .given .1) (c .before .before .before .before .lines-until .ensures)
+all : (c : tie.After-found) → Read (c .before .before .before .before) (reached.At (c .found .given .0 .0) (c .found .given .0 .1 .0))
+all c = subst (Read (c .before .before .before .before)) (c .found .given .1) (c .before .before .before .before .lines-until .ensures)
+
+fault : (c : tie.After-found2) → Read (c .before .before .before .before) (reached.Broken (c .found2 .given .0 .0))
+fault c = subst (Read (c .before .before .before .before)) (c .found2 .given .1) (c .before .before .before .before .lines-until .ensures)
 
 padded-requires : tie.Need-padded-requires
 padded-requires c κs = search needs
