@@ -35,7 +35,7 @@ pub record Answers (read : Read) (held : List ℕ) (r : SheetRead) (list : List 
   pub result : r ≡ resultOf read
   pub listed : list ≡ listing (arcsOf read) held
 
--- lines read one after the other, from the start of s up to a place: the arcs after them, and the list with these
+-- lines read one after the other, from the start of s up to a place, where these arcs are listed already: all arcs then, and the list with them
 pub record Lists (s : List ℕ) (n : ℕ) (arcs : List Arc) (held list : List ℕ) (at : ℕ) : Type 0 where
   pub all : List Arc
   pub listed : list ≡ listing all held
@@ -51,13 +51,13 @@ abbrev pub LinesWithin : List ℕ → ℕ → ℕ → Reached → Type 0
 LinesWithin s stop ahead (reached.At at m) = (stop ≤ at) × (at ≤ length s) × (m ≤ ahead + at)
 LinesWithin s stop ahead (reached.Broken place) = place ≤ length s
 
--- all lines that begin ahead of `stop`, or those ahead of a fault, where so many arcs are listed already
+-- at least the lines that begin ahead of `stop`, or those ahead of a fault, where `ahead` arcs are listed already
 pub record ReadsLines (s : List ℕ) (stop ahead : ℕ) (entry list : List ℕ) (r : Reached) : Type 0 where
   pub reads
       : (n : ℕ) (arcs : List Arc) (held : List ℕ) → length arcs ≡ ahead → entry ≡ listing arcs held → AfterLines s stop n arcs held list r
   pub within : LinesWithin s stop ahead r
 
--- a read of the order lines in s, where so many arcs are listed already
+-- a read of the order lines in s, where `ahead` arcs are listed already
 pub record AnswersAfter (ahead : ℕ) (s : List ℕ) (start n : ℕ) (entry : List ℕ) (r : SheetRead) (list : List ℕ) : Type 0 where
   pub reads
       : (arcs : List Arc) (held : List ℕ) → length arcs ≡ ahead → entry ≡ listing arcs held → Answers (scanFrom (atLine n arcs) start s) held r list
