@@ -1,30 +1,36 @@
-// The C loop to compare with: reads a sheet by the line form in one pass, with no byte read past its end. There are two of it: one expects lines that
-// end in a line feed, the other in a carriage return and a line feed, as the count line does. Both take either.
+// The C loop to compare with: reads a sheet by the line form in one pass, with no byte read past its end. As long as there are as many bytes left as a
+// line may have, none is tested for being there. There are two loops: one expects lines that end in a line feed, the other in a carriage return and a
+// line feed, as the count line does. Both take either.
 #include <stddef.h>
 #include <stdint.h>
 
+enum { LINE = 9 }; // bytes of the longest line
+
 // How many arcs there are plus 2^20 times one more than the count, or the place of the fault.
 uint64_t c_read(const uint8_t *d, size_t len, uint16_t *list, size_t room) {
-#define DIGIT(e) (at < len && (e = d[at] - '0') < 10)
-#define NUMBER(x) do { unsigned e; if (!DIGIT(e)) goto bad; at++; x = e; \
-    if (x) { if (DIGIT(e)) { x = 10 * x + e; at++; if (DIGIT(e)) { x = 10 * x + e; at++; } } } } while (0)
-#define IS(b) (at < len && d[at] == (b))
-#define BYTE(b) do { if (!IS(b)) goto bad; at++; } while (0)
-#define LF() do { if (__builtin_expect(IS('\n'), 1)) at++; else { BYTE('\r'); BYTE('\n'); } } while (0)
-#define CR_LF() do { if (__builtin_expect(IS('\r'), 1)) { at++; BYTE('\n'); } else BYTE('\n'); } while (0)
-#define LINES(END) while (at < len) { \
-        NUMBER(x); \
-        BYTE(' '); \
-        NUMBER(y); \
-        END(); \
+#define SURE 1
+#define CAREFUL (at < len)
+#define DIGIT(e, THERE) (THERE && (e = d[at] - '0') < 10)
+#define NUMBER(x, THERE) do { unsigned e; if (!DIGIT(e, THERE)) goto bad; at++; x = e; \
+    if (x) { if (DIGIT(e, THERE)) { x = 10 * x + e; at++; if (DIGIT(e, THERE)) { x = 10 * x + e; at++; } } } } while (0)
+#define IS(b, THERE) (THERE && d[at] == (b))
+#define BYTE(b, THERE) do { if (!IS(b, THERE)) goto bad; at++; } while (0)
+#define LF(THERE) do { if (__builtin_expect(IS('\n', THERE), 1)) at++; else { BYTE('\r', THERE); BYTE('\n', THERE); } } while (0)
+#define CR_LF(THERE) do { if (__builtin_expect(IS('\r', THERE), 1)) { at++; BYTE('\n', THERE); } else BYTE('\n', THERE); } while (0)
+#define LINES(STOP, END, THERE) while (at < (STOP)) { \
+        NUMBER(x, THERE); \
+        BYTE(' ', THERE); \
+        NUMBER(y, THERE); \
+        END(THERE); \
         if (m < room / 2) { list[2 * m] = x; list[2 * m + 1] = y; } \
         m++; \
     }
-    size_t at = 0, m = 0;
+    size_t at = 0, m = 0, stop = len < LINE ? 0 : len - LINE;
     unsigned n, x, y;
-    NUMBER(n);
-    LF();
-    if (d[at - 2] == '\r') LINES(CR_LF) else LINES(LF)
+    NUMBER(n, CAREFUL);
+    LF(CAREFUL);
+    if (d[at - 2] == '\r') LINES(stop, CR_LF, SURE) else LINES(stop, LF, SURE)
+    LINES(len, LF, CAREFUL)
     return m + ((uint64_t)(1 + n) << 20);
 bad:
     return at;

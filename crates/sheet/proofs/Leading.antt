@@ -45,7 +45,7 @@ module _ {s : List ℕ} where
       ∙ ap (λ (x : ℕ). scanFrom w (start + (a + 1)) (drop x s)) (sym (add-one a))
       ∙ leads-scan start k)
 
-  pub breaks-join
+  unfoldable pub breaks-join
       : {t u : State} {a b place : ℕ} → Leads s t a u b → arcsAhead (fieldOf u) ≡ arcsAhead (fieldOf t) → whole u ≡ none → Breaks s u b place
       → Breaks s t a place
   breaks-join l e w k = record {
@@ -70,7 +70,9 @@ module _ {s : List ℕ} where
                 rw (drop-of-length-le s {i = place} (omega arith))
                 (scan-short (k .reached) (start + place)
                 (⊎-elim (k .unfinished)
-                (λ h. subst (λ (x : State). whole x ≡ none) (h .1) (⊎-elim (λ e. e) (λ (m : a < length s). absurd (omega (arith, h .0))) w)) (leads-on (k .leads))))
+                (λ h.
+                subst (λ (x : State). whole x ≡ none) (h .1) (⊎-elim (λ e. e) (λ (m : a < length s). absurd (omega (arith, h .0))) w))
+                (leads-on (k .leads))))
           ]
 
 -- in bytes that are the same, zeros after them aside
@@ -80,7 +82,7 @@ module _ {p s : List ℕ} (same : (i : ℕ) → getD p i 0 ≡ getD s i 0) where
   leads-same stay = stay
   leads-same {t} {a = a} (byte z e k) = byte (subst (λ (x : ℕ). 0 < x) (same a) z) (ap (step t) (sym (same a)) ∙ e) (leads-same k)
 
-  pub breaks-same : {t : State} {a place : ℕ} → Breaks p t a place → Breaks s t a place
+  unfoldable pub breaks-same : {t : State} {a place : ℕ} → Breaks p t a place → Breaks s t a place
   breaks-same {place = place} k = record {
     reached = k .reached;
     leads = leads-same (k .leads);
