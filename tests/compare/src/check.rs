@@ -1,7 +1,8 @@
 //! One input held against `second`, and the count of all of them.
 
-use crate::ffi::{self, Areas, Lent};
+use crate::ffi::{self, Areas};
 use crate::generate::damages;
+use crate::lent::Lent;
 use second::{packed, Outcome};
 use std::collections::{BTreeMap, HashSet};
 use std::fmt::Write;
@@ -163,7 +164,7 @@ impl Tally {
                 }),
             Input::Pairs(count, list) => {
                 let call =
-                    |list: Lent<u16>, areas: &mut Areas| ffi::test_pairs(*count, list, areas);
+                    |list: &Lent<u16>, areas: &mut Areas| ffi::test_pairs(*count, list, areas);
                 self.call("ordersheet_test_pairs", list, lent, true, &expected, call)
             }
             Input::Record(record) => self
@@ -231,29 +232,23 @@ impl Tally {
 
     /// One call with a fresh copy of the input and fresh areas; what is wrong
     /// with it, if anything.
-    fn call<T: Clone + PartialEq>(
+    fn call<T: Copy + PartialEq>(
         &mut self,
         entry: &str,
         input: &[T],
         lent: (usize, usize),
         sequences: bool,
         expected: &Outcome,
-        call: impl FnOnce(Lent<T>, &mut Areas) -> u64,
+        call: impl FnOnce(&Lent<T>, &mut Areas) -> u64,
     ) -> Option<String> {
-        let mut copy = input.to_vec();
+        let copy = Lent::new(input);
         let mut areas = Areas {
             record: Guarded::new(lent.0, &mut self.pattern),
             reduced: Guarded::new(lent.1, &mut self.pattern),
             forward: Guarded::new(128, &mut self.pattern),
             reverse: Guarded::new(128, &mut self.pattern),
         };
-        let answer = call(
-            Lent {
-                pointer: copy.as_mut_ptr(),
-                length: copy.len(),
-            },
-            &mut areas,
-        );
+        let answer = call(&copy, &mut areas);
         let none: &[u8] = &[];
         let sequence = |entries| if sequences { entries } else { none };
         let right = answer == packed(expected.number, expected.places)
@@ -261,7 +256,7 @@ impl Tally {
             && areas.reduced.is(&expected.reduced)
             && areas.forward.is(sequence(&expected.forward))
             && areas.reverse.is(sequence(&expected.reverse))
-            && copy == input;
+            && copy.is(input);
         if right {
             return None;
         }
@@ -289,7 +284,7 @@ impl Tally {
         let _ = writeln!(report, "    reduced {}", areas.reduced.show());
         let _ = writeln!(report, "    forward {}", areas.forward.show());
         let _ = writeln!(report, "    reverse {}", areas.reverse.show());
-        if copy != input {
+        if !copy.is(input) {
             let _ = writeln!(report, "    the input was changed");
         }
         Some(report)

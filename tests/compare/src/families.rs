@@ -34,7 +34,7 @@ impl Task {
 
 /// All tasks, those of the heavy families first.
 pub fn tasks() -> Vec<Task> {
-    let families: [(&'static str, usize, Body); 23] = [
+    let families: [(&'static str, usize, Body); 24] = [
         (
             "sheets about the longest",
             LONG_COUNTS.len(),
@@ -44,6 +44,7 @@ pub fn tasks() -> Vec<Task> {
         ("series-parallel orders", 40, series_parallel_orders),
         ("some orders more", 30, some_orders_more),
         ("any graph", 30, any_graphs),
+        ("the last bytes", LAST_PARTS, last_bytes),
         ("many orders", 10, many_orders),
         ("areas of every length", 20, every_area),
         ("damaged records", 20, damaged_records),
@@ -555,6 +556,70 @@ fn cut_short(rng: &mut Rng, _: usize, tally: &mut Tally) {
             for length in 0..=sheet.len() {
                 compare_small(tally, sheet[..length].to_vec());
             }
+        }
+    }
+}
+
+const LAST_PARTS: usize = 9;
+
+/// What stands at one of the last places instead of its byte, or ahead of it.
+const LAST_BYTES: &[u8] = b"\0\t\n\r 019:/x\xff";
+
+/// The least job of so many digits.
+const LEAST: [usize; 4] = [0, 0, 10, 100];
+
+/// Sheets with a last line of each length, one byte changed at each of the last
+/// places. Those with line ends of one kind have all lines alike.
+fn last_bytes(rng: &mut Rng, part: usize, tally: &mut Tally) {
+    let digits = (part / 3 + 1, part % 3 + 1);
+    for ahead in [0, 1, 2, 3, 30] {
+        let alike = vec![digits; ahead + 1];
+        let mut any = alike.clone();
+        any[..ahead].fill_with(|| (rng.from(1, 3), rng.from(1, 3)));
+        let alike = sheet_of_digits(rng, &alike);
+        let any = sheet_of_digits(rng, &any);
+        let [without, with, _] = each_end(rng, &alike);
+        let [_, _, mixed] = each_end(rng, &any);
+        for sheet in [without, with, mixed] {
+            changed_at_the_end(tally, &sheet);
+        }
+    }
+    // The count line is the last one.
+    let count = sheet(LEAST[digits.1] + 9, &[]);
+    for sheet in each_end(rng, &count) {
+        changed_at_the_end(tally, &sheet);
+    }
+}
+
+/// A sheet with an order for each entry, its jobs of so many digits. The last
+/// order is none of those ahead.
+fn sheet_of_digits(rng: &mut Rng, digits: &[(usize, usize)]) -> Vec<u8> {
+    let order =
+        |(i, &(u, v)): (usize, &(usize, usize))| (LEAST[u] + i % 4, LEAST[v] + 4 + i / 8 % 4);
+    let mut orders: Orders = digits.iter().enumerate().map(order).collect();
+    let (u, v) = digits[digits.len() - 1];
+    *orders.last_mut().unwrap() = (LEAST[u] + rng.below(4), LEAST[v] + 8);
+    let most = digits.iter().map(|&(u, v)| u.max(v)).max().unwrap();
+    sheet(LEAST[most] + 9, &orders)
+}
+
+/// At each of the last 20 places and at the end, the sheet cut off, a byte put
+/// in, taken out and replaced.
+fn changed_at_the_end(tally: &mut Tally, sheet: &[u8]) {
+    let mut compare = |sheet| tally.compare(&Input::Sheet(sheet), ENOUGH.0, 80);
+    for at in sheet.len().saturating_sub(20)..=sheet.len() {
+        compare(sheet[..at].to_vec());
+        for &byte in LAST_BYTES {
+            compare(put_in(sheet, at, &[byte]));
+        }
+        if at < sheet.len() {
+            let mut changed = sheet.to_vec();
+            for &byte in LAST_BYTES {
+                changed[at] = byte;
+                compare(changed.clone());
+            }
+            changed.remove(at);
+            compare(changed);
         }
     }
 }

@@ -1,7 +1,8 @@
 //! The C entries of the library under test, and nothing else that is unsafe but
-//! the mock's own bodies.
+//! what `lent` does and the mock's own bodies.
 
 use crate::check::Guarded;
+use crate::lent::Lent;
 
 extern "C" {
     fn ordersheet_analyse(
@@ -59,12 +60,6 @@ extern "C" {
     ) -> u64;
 }
 
-/// An input lent to a call.
-pub struct Lent<T> {
-    pub pointer: *const T,
-    pub length: usize,
-}
-
 /// The areas lent to a call.
 pub struct Areas {
     pub record: Guarded,
@@ -73,11 +68,11 @@ pub struct Areas {
     pub reverse: Guarded,
 }
 
-pub fn analyse(sheet: Lent<u8>, areas: &mut Areas) -> u64 {
+pub fn analyse(sheet: &Lent<u8>, areas: &mut Areas) -> u64 {
     unsafe {
         ordersheet_analyse(
-            sheet.pointer,
-            sheet.length,
+            sheet.pointer(),
+            sheet.length(),
             areas.record.pointer(),
             areas.record.length(),
             areas.reduced.pointer(),
@@ -86,22 +81,22 @@ pub fn analyse(sheet: Lent<u8>, areas: &mut Areas) -> u64 {
     }
 }
 
-pub fn read(record: Lent<u8>, areas: &mut Areas) -> u64 {
+pub fn read(record: &Lent<u8>, areas: &mut Areas) -> u64 {
     unsafe {
         ordersheet_read(
-            record.pointer,
-            record.length,
+            record.pointer(),
+            record.length(),
             areas.reduced.pointer(),
             areas.reduced.length(),
         )
     }
 }
 
-pub fn test_sheet(sheet: Lent<u8>, areas: &mut Areas) -> u64 {
+pub fn test_sheet(sheet: &Lent<u8>, areas: &mut Areas) -> u64 {
     unsafe {
         ordersheet_test_sheet(
-            sheet.pointer,
-            sheet.length,
+            sheet.pointer(),
+            sheet.length(),
             areas.record.pointer(),
             areas.record.length(),
             areas.reduced.pointer(),
@@ -114,12 +109,12 @@ pub fn test_sheet(sheet: Lent<u8>, areas: &mut Areas) -> u64 {
     }
 }
 
-pub fn test_pairs(count: u16, list: Lent<u16>, areas: &mut Areas) -> u64 {
+pub fn test_pairs(count: u16, list: &Lent<u16>, areas: &mut Areas) -> u64 {
     unsafe {
         ordersheet_test_pairs(
             count,
-            list.pointer,
-            list.length,
+            list.pointer(),
+            list.length(),
             areas.record.pointer(),
             areas.record.length(),
             areas.reduced.pointer(),
@@ -132,11 +127,11 @@ pub fn test_pairs(count: u16, list: Lent<u16>, areas: &mut Areas) -> u64 {
     }
 }
 
-pub fn test_read(record: Lent<u8>, areas: &mut Areas) -> u64 {
+pub fn test_read(record: &Lent<u8>, areas: &mut Areas) -> u64 {
     unsafe {
         ordersheet_test_read(
-            record.pointer,
-            record.length,
+            record.pointer(),
+            record.length(),
             areas.reduced.pointer(),
             areas.reduced.length(),
             areas.forward.pointer(),

@@ -1,10 +1,11 @@
 //! The product's C entries held against `second`, bit for bit, on inputs from
-//! a fixed seed.
+//! a fixed seed. A read past an input's end kills the process.
 
 pub mod check;
 pub mod families;
 pub mod ffi;
 pub mod generate;
+pub mod lent;
 #[cfg(feature = "mock")]
 pub mod mock;
 
