@@ -13,7 +13,7 @@ use Rattle.poset.proofs.Laws.{lt-true, count-same, count-other, count-mem}
 use Rattle.poset.proofs.Shape.{Once, in-leaves, leaves-in}
 use Rattle.poset.proofs.Meaning.{once-count, spans-holds, holds-spans}
 use Rattle.record.specs.Bits.{AllBelow, bits}
-use Rattle.record.specs.Layout.{kindBit, moreChildren, treeBits, forestBits}
+use Rattle.record.specs.Layout.{hoursBits, leafBits, kindBit, moreChildren, hoursOf, treeBits, forestBits}
 use Rattle.record.proofs.Below.{below-nil, below-cons, below-head, below-tail, below-append, below-left, below-right}
 use Rattle.record.proofs.Fields.{bits-below, length-bits}
 
@@ -91,46 +91,54 @@ mutual
   forest-groups (last t) = omega (arith, groups-lt t)
   forest-groups (more t f) = omega (arith, groups-lt t, forest-groups f, length-append (leaves t) (forestLeaves f))
 
--- 8 bits a leaf, 9 a group
+-- `leafBits` a leaf, 9 a group
 
 pub kind-below : (k : Kind) → kindBit k < 2
 unfolding kindBit
 kind-below series = omega arith
 kind-below parallel = omega arith
 
-mutual
-  unfolding leaves groups treeBits
+module _ (hours : List ℕ) where
+  mutual
+    unfolding leaves groups treeBits
 
-  pub length-treeBits : (t : Tree) → length (treeBits t) ≡ 8 * length (leaves t) + 9 * groups t
-  length-treeBits (leaf j) = omega (arith, length-bits 7 j)
-  length-treeBits (node k t f) =
-      omega (
-        arith,
-        length-append (bits 7 (moreChildren f)) (treeBits t ++ forestBits f),
-        length-bits 7 (moreChildren f),
-        length-append (treeBits t) (forestBits f),
-        length-append (leaves t) (forestLeaves f),
-        length-treeBits t,
-        length-forestBits f,
-      )
+    pub length-treeBits : (t : Tree) → length (treeBits hours t) ≡ leafBits * length (leaves t) + 9 * groups t
+    length-treeBits (leaf j) =
+        omega (arith, length-append (bits 7 j) (bits hoursBits (hoursOf hours j)), length-bits 7 j, length-bits hoursBits (hoursOf hours j))
+    length-treeBits (node k t f) =
+        omega (
+          arith,
+          length-append (bits 7 (moreChildren f)) (treeBits hours t ++ forestBits hours f),
+          length-bits 7 (moreChildren f),
+          length-append (treeBits hours t) (forestBits hours f),
+          length-append (leaves t) (forestLeaves f),
+          length-treeBits t,
+          length-forestBits f,
+        )
 
-  length-forestBits : (f : Forest) → length (forestBits f) ≡ 8 * length (forestLeaves f) + 9 * forestGroups f
-  length-forestBits (last t) = length-treeBits t
-  length-forestBits (more t f) =
-      omega (arith, length-append (treeBits t) (forestBits f), length-append (leaves t) (forestLeaves f), length-treeBits t, length-forestBits f)
+    length-forestBits : (f : Forest) → length (forestBits hours f) ≡ leafBits * length (forestLeaves f) + 9 * forestGroups f
+    length-forestBits (last t) = length-treeBits t
+    length-forestBits (more t f) =
+        omega (
+          arith,
+          length-append (treeBits hours t) (forestBits hours f),
+          length-append (leaves t) (forestLeaves f),
+          length-treeBits t,
+          length-forestBits f,
+        )
 
-mutual
-  unfolding treeBits
+  mutual
+    unfolding treeBits
 
-  pub treeBits-below : (t : Tree) → AllBelow 2 (treeBits t)
-  treeBits-below (leaf j) = below-cons (omega arith) (bits-below 7 j)
-  treeBits-below (node k t f) =
-      below-cons (omega arith)
-      (below-cons (kind-below k) (below-append (bits-below 7 (moreChildren f)) (below-append (treeBits-below t) (forestBits-below f))))
+    pub treeBits-below : (t : Tree) → AllBelow 2 (treeBits hours t)
+    treeBits-below (leaf j) = below-cons (omega arith) (below-append (bits-below 7 j) (bits-below hoursBits (hoursOf hours j)))
+    treeBits-below (node k t f) =
+        below-cons (omega arith)
+        (below-cons (kind-below k) (below-append (bits-below 7 (moreChildren f)) (below-append (treeBits-below t) (forestBits-below f))))
 
-  forestBits-below : (f : Forest) → AllBelow 2 (forestBits f)
-  forestBits-below (last t) = treeBits-below t
-  forestBits-below (more t f) = below-append (treeBits-below t) (forestBits-below f)
+    forestBits-below : (f : Forest) → AllBelow 2 (forestBits hours f)
+    forestBits-below (last t) = treeBits-below t
+    forestBits-below (more t f) = below-append (treeBits-below t) (forestBits-below f)
 
 -- at most 128 leaves, all below 128: every field of the tree fits in 7 bits
 
