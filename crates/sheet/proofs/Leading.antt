@@ -1,6 +1,6 @@
 -- Bytes that lead from a state to another: one run after another, as a scan, and in a copy.
 use Prim.Native.Nat.{ℕ, suc, _+_, _≤_, _<_}
-use mathlib.Core.Path.{_≡_, refl, sym, ap, subst, _∙_}
+use mathlib.Core.Path.{_≡_, refl, sym, ap, ap₂, subst, _∙_}
 use mathlib.Core.List.{List}
 use mathlib.Core.Option.{none, some}
 use mathlib.Core.Logic.{_⊎_, inl, inr, ⊎-elim}
@@ -9,7 +9,7 @@ use native.Mathlib.Numerals.{add-one}
 use native.Mathlib.Omega.{arith}
 use lib.ListN.{length, getD, drop, drop-of-length-le, List·getD-eq-default}
 use lib.Seq.{drop-cons}
-use Rattle.sheet.specs.Scan.{State, broken, arcsAhead, fieldOf, step, whole, scanFrom}
+use Rattle.sheet.specs.Scan.{State, broken, hoursAhead, arcsAhead, fieldOf, faulty, step, whole, scanFrom}
 use Rattle.sheet.specs.Reading.{Leads, stay, byte, Breaks}
 use Rattle.sheet.proofs.Scanning.{scan-step, scan-fault, scan-short}
 
@@ -46,23 +46,24 @@ module _ {s : List ℕ} where
       ∙ leads-scan start k)
 
   unfoldable pub breaks-join
-      : {t u : State} {a b place : ℕ} → Leads s t a u b → arcsAhead (fieldOf u) ≡ arcsAhead (fieldOf t) → whole u ≡ none → Breaks s u b place
-      → Breaks s t a place
-  breaks-join l e w k = record {
+      : {t u : State} {a b place : ℕ} → Leads s t a u b → hoursAhead (fieldOf u) ≡ hoursAhead (fieldOf t)
+      → arcsAhead (fieldOf u) ≡ arcsAhead (fieldOf t) → whole u ≡ none → Breaks s u b place → Breaks s t a place
+  breaks-join l d e w k = record {
     reached = k .reached;
     leads = leads-join l (k .leads);
-    same-line = k .same-line ∙ e;
+    same-hours = k .same-hours ∙ d;
+    same-arcs = k .same-arcs ∙ e;
     stuck = k .stuck;
     unfinished = λ _. ⊎-elim (k .unfinished) (λ h. subst (λ (x : State). whole x ≡ none) (h .1) w) (leads-on (k .leads));
   }
 
   pub breaks-scan
       : (start : ℕ) {t : State} {a place : ℕ} → Breaks s t a place → (whole t ≡ none) ⊎ (a < length s) → a ≤ length s
-      → scanFrom t (start + a) (drop a s) ≡ broken (start + place) (arcsAhead (fieldOf t))
+      → scanFrom t (start + a) (drop a s) ≡ broken (start + place) (hoursAhead (fieldOf t)) (arcsAhead (fieldOf t))
   breaks-scan start {t} {a} {place} k w h =
-      leads-scan start (k .leads) ∙ fault ∙ ap (broken (start + place)) (k .same-line)
+      leads-scan start (k .leads) ∙ fault ∙ ap₂ (broken (start + place)) (k .same-hours) (k .same-arcs)
     where
-      fault : scanFrom (k .reached) (start + place) (drop place s) ≡ broken (start + place) (arcsAhead (fieldOf (k .reached)))
+      fault : scanFrom (k .reached) (start + place) (drop place s) ≡ faulty (k .reached) (start + place)
       fault =
           elim (decLt place (length s)) [
             | yes l ↦ rw (drop-cons s place 0 l) (scan-fault (k .reached) (start + place) (getD s place 0) (drop (suc place) s) (k .stuck))
@@ -86,7 +87,8 @@ module _ {p s : List ℕ} (same : (i : ℕ) → getD p i 0 ≡ getD s i 0) where
   breaks-same {place = place} k = record {
     reached = k .reached;
     leads = leads-same (k .leads);
-    same-line = k .same-line;
+    same-hours = k .same-hours;
+    same-arcs = k .same-arcs;
     stuck = ap (step (k .reached)) (sym (same place)) ∙ k .stuck;
     unfinished = k .unfinished;
   }

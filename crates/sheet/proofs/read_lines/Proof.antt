@@ -5,7 +5,8 @@ use lib.ListN.{length, length-drop}
 use Rattle.sheet.specs.Listing.{ReadsLines}
 use Rattle.sheet.specs.declared.Reached.{Reached}
 use Rattle.sheet.specs.declared.Reached.the-variants as reached
-use Rattle.sheet.proofs.Lines.{rest-of, lines-done, lines-broken}
+use Rattle.sheet.proofs.Hours.{rest-of}
+use Rattle.sheet.proofs.Lines.{lines-done, lines-broken}
 use borrow.Author.Needs.{needs}
 use Rattle.sheet.proofs.read_lines.Statement.{statement}
 use Rattle.sheet.proofs.read_lines.Tie as tie
