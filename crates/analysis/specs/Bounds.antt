@@ -3,4 +3,4 @@ use Prim.Native.Nat.{ℕ}
 
 -- the bytes of the longest sheet
 abbrev pub longestSheet : ℕ
-longestSheet = 36869
+longestSheet = 37637

@@ -12,7 +12,7 @@ use Rattle.analysis.specs.declared.Verdict.{Verdict}
 use Rattle.analysis.specs.declared.Verdict.the-variants as verdict
 use Rattle.analysis.specs.declared.Analysis.{Analysis}
 
--- document 01's number and places of an answer
+-- the papers' number and places of an answer
 abbrev pub answerOf : Verdict → Answer
 answerOf (verdict.Accepted bytes arcs groups) = answer 0 bytes arcs groups 0
 answerOf verdict.Long = answer 1 0 0 0 0
@@ -26,10 +26,12 @@ answerOf (verdict.Crossed a b c d) = answer 8 a b c d
 answerOf verdict.RecordRoom = answer 9 0 0 0 0
 answerOf verdict.ArcRoom = answer 10 0 0 0 0
 answerOf verdict.NoRecord = answer 11 0 0 0 0
+answerOf verdict.HoursLength = answer 12 0 0 0 0
+answerOf (verdict.HoursLarge j) = answer 13 j 0 0 0
 
--- a refusal has no sequences
+-- a refusal has no sequences and no hours
 abbrev pub refusal : Verdict → Analysis
-refusal v = record { verdict = v; forward = padded []; reverse = padded [] }
+refusal v = record { verdict = v; forward = padded []; reverse = padded []; hours = padded [] }
 
 -- the refusal of an order that no tree means, by its first N
 abbrev pub crossedBy : Option Four → Analysis
@@ -40,10 +42,11 @@ crossedBy none = refusal (verdict.Crossed 0 0 0 0)
 abbrev pub rooms : List ℕ → List ℕ → Rooms
 rooms bytes area = record { record-room = length bytes; arc-room = length area }
 
--- the answer, both areas after the call, and both sequences
+-- the answer, both areas after the call, both sequences and the hours
 pub record Gives (o : Outcome) (bytes area : List ℕ) (r : Analysis) (bytes′ area′ : List ℕ) : Type 0 where
   pub answers : answerOf (r .verdict) ≡ o .verdict
   pub record-is : bytes′ ≡ overlay (o .bytes) bytes
   pub arcs-are : area′ ≡ overlay (arcBytes (o .arcs)) area
   pub forward-is : r .forward ≡ padded (o .forward)
   pub reverse-is : r .reverse ≡ padded (o .reverse)
+  pub hours-is : r .hours ≡ padded (o .hours)
