@@ -36,18 +36,21 @@ pub fn refused() -> Part
     unread(0, 0)
 }
 
-// A leaf after `done` others: its job is below the count, not below the floor, and named for the first time.
+// A leaf after `done` others: its job is below the count, not below the floor, and named for the first time. `time`: its hours.
 pub fn leaf(
     count: u8,
     floor: u8,
     job: u8,
+    time: u16,
     done: u8,
     groups: u8,
     seen: &mut [u8; 128],
     forward: &mut [u8; 128],
+    hours: &mut [u16; 128],
 ) -> Part
     requires { ⌜ (count ≤ 128) ⌝ }
-    ensures { λ r. ⌜ LeafRead count floor job done groups (now (seen .entry)) (now (forward .entry)) (now (seen .exit)) (now (forward .exit)) r ⌝ }
+    ensures { λ r. ⌜ LeafRead count floor job time done groups (now (seen .entry)) (now (forward .entry)) (now (hours .entry))
+        (now (seen .exit)) (now (forward .exit)) (now (hours .exit)) r ⌝ }
 {
     if job >= count {
         return refused();
@@ -65,6 +68,7 @@ pub fn leaf(
     seen[mark] = 1;
     let place = done as usize;
     forward[place] = job;
+    hours[mark] = time;
     Part {
         ok: true,
         done: done + 1,
