@@ -21,6 +21,19 @@ kind-of : (x : ℕ) → 128 ≤ x → x < 256 → (k : Kind) × (x / 64 ≡ 2 + 
 unfolding kindBit
 kind-of x l h = elim (decLe x 191) [ yes p ↦ (series, omega arith) | no p ↦ (parallel, omega arith) ]
 
+-- a field and the one after it
+two-fields : {bs : List ℕ} {at : ℕ} (j k x y : ℕ) → FieldAt bs at j x → FieldAt bs (at + j) k y → At bs at (bits j x ++ bits k y)
+two-fields {bs} {at} j k x y f g =
+    let place : at + j ≡ at + length (bits j x) = omega (arith, length-bits j x) in
+    at-join (bits j x) (bits k y) (f .stands) (subst (λ (i : ℕ). At bs i (bits k y)) place (g .stands))
+
+-- the hours of a leaf: 8 bits, then 4
+pub hours-field : (bs : List ℕ) (at x y : ℕ) → FieldAt bs at 8 x → FieldAt bs (at + 8) 4 y → FieldAt bs at hoursBits (x * 16 + y)
+hours-field bs at x y f g =
+    let x-small : x < 256 = f .small in
+    let y-small : y < 16 = g .small in
+    record { stands = subst (At bs at) (sym (bits-append 8 4 x y (g .small))) (two-fields 8 4 x y f g); small = omega arith }
+
 module _ (bs : List ℕ) (at : ℕ) where
   none-at : ((t : Tree) → Small (leaves t) → (hours : List ℕ) → AllBelow (2 ^ hoursBits) hours → At bs at (treeBits hours t) → ⊥)
       → NodeAt bs at (record { tag = 3; value = 0; hours = 0 })
@@ -43,11 +56,8 @@ module _ (bs : List ℕ) (at : ℕ) where
     unfolding bits
     leaf-node h y g =
         let first : x / 128 % 2 ≡ 0 = omega arith in
-        let place : at + 8 ≡ at + length (bits 8 x) = omega (arith, length-bits 8 x) in
-        let both : At bs at (bits 8 x ++ bits hoursBits y) =
-        at-join (bits 8 x) (bits hoursBits y) (f .stands) (subst (λ (i : ℕ). At bs i (bits hoursBits y)) place (g .stands)) in
         record {
-          leafAt = λ _. subst (λ (b : ℕ). At bs at (b ∷ bits 7 x ++ bits hoursBits y)) first both;
+          leafAt = λ _. subst (λ (b : ℕ). At bs at (b ∷ bits 7 x ++ bits hoursBits y)) first (two-fields 8 hoursBits x y f g);
           groupAt = λ k e. absurd (omega arith);
           noneAt = λ e. absurd (omega arith);
           several = λ k e. absurd (omega arith);
@@ -64,14 +74,11 @@ module _ (bs : List ℕ) (at : ℕ) where
       unfolding bits
       header-at k e =
           let c : ℕ = x % 64 * 2 + b in
-          let place : at + 8 ≡ at + length (bits 8 x) = omega (arith, length-bits 8 x) in
-          let both : At bs at (bits 8 x ++ bits 1 b) =
-          at-join (bits 8 x) (bits 1 b) (f .stands) (subst (λ (i : ℕ). At bs i (bits 1 b)) place (g .stands)) in
           let value : x * 2 ^ 1 + b ≡ x / 64 * 2 ^ 7 + c = omega arith in
           let halves : bits 8 x ++ bits 1 b ≡ bits 2 (x / 64) ++ bits 7 c =
           sym (bits-append 8 1 x b (g .small)) ∙ ap (bits 9) value ∙ bits-append 2 7 (x / 64) c more-small in
           let (top, kind) = two-bits (x / 64) (kindBit k) e (kind-below k) in
-          subst (At bs at) (halves ∙ ap₂ (λ (u v : ℕ). u ∷ v ∷ bits 7 c) top kind) both
+          subst (At bs at) (halves ∙ ap₂ (λ (u v : ℕ). u ∷ v ∷ bits 7 c) top kind) (two-fields 8 1 x b f g)
 
       -- no group has one child
       pub lone-child : x % 64 * 2 + b ≡ 0 → NodeAt bs at (record { tag = 3; value = 0; hours = 0 })
@@ -93,13 +100,3 @@ module _ (bs : List ℕ) (at : ℕ) where
             small = more-small;
             low = omega arith;
           }
-
--- the hours of a leaf: 8 bits, then 4
-pub hours-field : (bs : List ℕ) (at x y : ℕ) → FieldAt bs at 8 x → FieldAt bs (at + 8) 4 y → FieldAt bs at hoursBits (x * 16 + y)
-hours-field bs at x y f g =
-    let place : at + 8 ≡ at + length (bits 8 x) = omega (arith, length-bits 8 x) in
-    let both : At bs at (bits 8 x ++ bits 4 y) =
-    at-join (bits 8 x) (bits 4 y) (f .stands) (subst (λ (i : ℕ). At bs i (bits 4 y)) place (g .stands)) in
-    let x-small : x < 256 = f .small in
-    let y-small : y < 16 = g .small in
-    record { stands = subst (At bs at) (sym (bits-append 8 4 x y (g .small))) both; small = omega arith }

@@ -315,9 +315,7 @@ module _ (k : Kind) (bytes : List ℕ) (n c done gone : ℕ) (w : Lists) (r : Re
         as-longer p₁ l number e f g x =
             subst (λ (i : ℕ). Prefix k (bitsOf bytes) n done gone w after (longer k p q) i (floorAfter k (q .least))) g
             (subst (λ (i : Part). Prefix k (bitsOf bytes) n done gone w after i number (floorAfter k (q .least))) (sym e)
-            (subst (λ (i : List ℕ).
-            Prefix k (bitsOf bytes) n done gone w (linkedAs i) p₁ number (floorAfter k (q .least)))
-            (sym f) x))
+            (subst (λ (i : List ℕ). Prefix k (bitsOf bytes) n done gone w (linkedAs i) p₁ number (floorAfter k (q .least))) (sym f) x))
 
         extended : Prefix k (bitsOf bytes) n done gone w after (longer k p q) (c + 1 - (left - 1)) (floorAfter k (q .least))
         extended =
@@ -339,9 +337,7 @@ module _ (k : Kind) (bytes : List ℕ) (n c done gone : ℕ) (w : Lists) (r : Re
             let number : ℕ = c + 1 - (left - 1) in
             let x : Prefix k (bitsOf bytes) n done gone w at p′ number floor′ =
             subst (λ (i : Part). Prefix k (bitsOf bytes) n done gone w at i number floor′) (sym same-part)
-            (subst (λ (l : List ℕ).
-            Prefix k (bitsOf bytes) n done gone w (linkedAs l) (longer k p q) number floor′)
-            (sym same-next) extended) in
+            (subst (λ (l : List ℕ). Prefix k (bitsOf bytes) n done gone w (linkedAs l) (longer k p q) number floor′) (sym same-next) extended) in
             let dones : p′ .done ≡ q .done = ap (λ (i : Part). i .done) same-part ∙ longer-ends k p q .0 in
             let groups-same : p′ .groups ≡ q .groups = ap (λ (i : Part). i .groups) same-part ∙ longer-ends k p q .1 in
             record {

@@ -44,7 +44,16 @@ fn chain(
     let mut part = unread(done, groups);
     let mut left = more + 1;
     while left > 0 {
-        let child = chain_child(bytes, count, part.done, part.groups, seen, forward, next, hours);
+        let child = chain_child(
+            bytes,
+            count,
+            part.done,
+            part.groups,
+            seen,
+            forward,
+            next,
+            hours,
+        );
         if !child.ok {
             return child;
         }
@@ -73,7 +82,7 @@ fn chain_child(
 {
     let node = node_at(bytes, place(done, groups));
     if node.tag == 0 {
-        return leaf(count, 0, node.value, node.hours, done, groups, seen, forward, hours);
+        return leaf(count, 0, node, done, groups, seen, forward, hours);
     }
     if node.tag != 2 {
         return refused();
@@ -156,7 +165,7 @@ fn side_child(
 {
     let node = node_at(bytes, place(done, groups));
     if node.tag == 0 {
-        return leaf(count, floor, node.value, node.hours, done, groups, seen, forward, hours);
+        return leaf(count, floor, node, done, groups, seen, forward, hours);
     }
     if node.tag != 1 {
         return refused();

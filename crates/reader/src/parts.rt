@@ -1,4 +1,5 @@
 // Parts of a record: what is read of a tree or of the children of a group, and the work lists beside it.
+use crate::nodes::Node;
 ghost use mathlib.Core.Path.{_≡_};
 ghost use mathlib.Core.Bool.{true};
 ghost use Prim.Native.Nat.{_≤_, _<_, min};
@@ -36,12 +37,11 @@ pub fn refused() -> Part
     unread(0, 0)
 }
 
-// A leaf after `done` others: its job is below the count, not below the floor, and named for the first time. `time`: its hours.
+// A leaf after `done` others: its job is below the count, not below the floor, and named for the first time.
 pub fn leaf(
     count: u8,
     floor: u8,
-    job: u8,
-    time: u16,
+    node: Node,
     done: u8,
     groups: u8,
     seen: &mut [u8; 128],
@@ -49,9 +49,10 @@ pub fn leaf(
     hours: &mut [u16; 128],
 ) -> Part
     requires { ⌜ (count ≤ 128) ⌝ }
-    ensures { λ r. ⌜ LeafRead count floor job time done groups (now (seen .entry)) (now (forward .entry)) (now (hours .entry))
+    ensures { λ r. ⌜ LeafRead count floor (node .value) (node .hours) done groups (now (seen .entry)) (now (forward .entry)) (now (hours .entry))
         (now (seen .exit)) (now (forward .exit)) (now (hours .exit)) r ⌝ }
 {
+    let job = node.value;
     if job >= count {
         return refused();
     }
@@ -68,7 +69,7 @@ pub fn leaf(
     seen[mark] = 1;
     let place = done as usize;
     forward[place] = job;
-    hours[mark] = time;
+    hours[mark] = node.hours;
     Part {
         ok: true,
         done: done + 1,

@@ -86,9 +86,10 @@ place-requires c κs = search needs
 filled-requires : tie.Need-filled-requires
 filled-requires c κs =
     let t = c .before .before .before .before .before in
+    let b = t .before .before .before .before .before .before .before .before .before .args .bytes .now in
     let f = t .before .before .before .before .before .field .ensures in
     let within = tree-within _ _ f _ _ _ _ (t .tree .ensures) (not-false _ (c .before .before .before .if3 .left)) in (
-      subst (λ (i : ℕ). i ≤ 8 * length (t .before .before .before .before .before .before .before .before .before .args .bytes .now)) (sym (c .place .ensures)) within,
+      subst (λ (i : ℕ). i ≤ 8 * length b) (sym (c .place .ensures)) within,
       t .before .before .before .before .before .before .if2 .left,
     )
 

@@ -241,7 +241,8 @@ unfolding kindBit
 chain-child-returns-3 t c =
     let n = c .before .before .before .before .before .before in
     let p = n .before .before .before .pre .1 in
-    child-full series _ _ _ _ _ (p .few) _ (chain-child-node t n) _ _ _ _ _ _ _ _ _ (c .before .before .if2 .left) (c .before .if3 .taken) (c .refused2 .ensures)
+    child-full series _ _ _ _ _ (p .few) _ (chain-child-node t n) _ _ _ _ _ _ _ _ _
+    (c .before .before .if2 .left) (c .before .if3 .taken) (c .refused2 .ensures)
 
 chain-child-add-side : (t : ℕ) → chain-child-lts.Need-add-side (chain-child-calls t) (chain-child-at t) chain-child.Post
 chain-child-add-side t c =
@@ -381,7 +382,8 @@ unfolding kindBit
 side-child-returns-3 t c =
     let n = c .before .before .before .before .before .before in
     let p = n .before .before .before .pre .1 in
-    child-full parallel _ _ _ _ _ (p .few) _ (side-child-node t n) _ _ _ _ _ _ _ _ _ (c .before .before .if2 .left) (c .before .if3 .taken) (c .refused2 .ensures)
+    child-full parallel _ _ _ _ _ (p .few) _ (side-child-node t n) _ _ _ _ _ _ _ _ _
+    (c .before .before .if2 .left) (c .before .if3 .taken) (c .refused2 .ensures)
 
 side-child-add-chain : (t : ℕ) → side-child-lts.Need-add-chain (side-child-calls t) (side-child-at t) side-child.Post
 side-child-add-chain t c =

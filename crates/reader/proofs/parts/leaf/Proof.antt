@@ -25,6 +25,9 @@ refused-requires-3 c κs = search needs
 returns-3 : tie.Need-returns-3
 returns-3 c = refused-leaf (c .refused3 .ensures) (λ inside above unseen room. omega (arith, c .before .if3 .taken))
 
+cast-mark : tie.Need-cast-mark
+cast-mark c = search needs
+
 element-copy-out-if4 : tie.Need-element-copy-out-if4
 element-copy-out-if4 c = search needs
 
@@ -68,6 +71,7 @@ leaf-spec =
     returns-2
     refused-requires-3
     returns-3
+    cast-mark
     element-copy-out-if4
     refused-requires-4
     returns-4
