@@ -1,23 +1,25 @@
 -- A child of a group of kind k: a leaf, or a group of the other kind.
-use Prim.Native.Nat.{ℕ, suc, _+_, _≤_, _<_}
+use Prim.Native.Nat.{ℕ, suc, _+_, _^_, _≤_, _<_}
 use mathlib.Core.Path.{_≡_, refl, sym, ap, subst, _∙_}
 use mathlib.Core.List.{List, [], _∷_, _++_, List·Memᴰ, List·Memᴰ·head, List·Memᴰ·eq-of-singleton}
 use mathlib.Core.Bool.{true, false}
 use mathlib.Core.Logic.{_⊎_, inl, inr, ⊎-elim}
 use native.Mathlib.Nat.{eq-or-lt-of-le}
 use native.Mathlib.Omega.{arith}
-use lib.ListN.{length, getD, length-append}
+use lib.ListN.{length, getD, length-append, length-set}
+use lib.Seq.{getD-set-same, getD-set-other}
 use Rattle.poset.specs.Tree.{Kind, series, parallel, Tree, leaf, node, Forest, last, more, leaves, forestLeaves, reversed, least, groups, alternates}
 use Rattle.poset.proofs.Laws.{decided, clash}
 use Rattle.poset.proofs.Standing.{other}
 use Rattle.poset.proofs.Shape.{in-leaves, leaves-in}
 use Rattle.poset.proofs.Canonical.{least-in, least-le}
-use Rattle.record.specs.Bits.{bits}
-use Rattle.record.specs.Layout.{kindBit, moreChildren, treeBits, forestBits}
+use Rattle.record.specs.Bits.{AllBelow, bits}
+use Rattle.record.specs.Layout.{hoursBits, kindBit, moreChildren, hoursOf, treeBits, forestBits}
+use Rattle.record.proofs.Below.{below-set}
 use Rattle.record.proofs.Fields.{length-bits}
 use Rattle.record.proofs.Sizes.{Small, forest-groups}
-use Rattle.reader.specs.Fields.{At, NodeAt, header}
-use Rattle.reader.specs.Parts.{Lists, Strand, alone, place, Free, Placed, Found, LeafRead, Above, ChildRead, ChildrenRead}
+use Rattle.reader.specs.Fields.{At, NodeAt, leafFields, header}
+use Rattle.reader.specs.Parts.{Lists, Strand, alone, place, Ready, Free, Placed, Found, LeafRead, Above, ChildRead, ChildrenRead}
 use Rattle.reader.specs.Parts.{Plain, PlainUnder, PlainChildren, ofTree, ofForest, refusedPart}
 use Rattle.reader.specs.declared.nodes.Node.{Node}
 use Rattle.reader.specs.declared.parts.Part.{Part}
@@ -47,7 +49,7 @@ group-placed : (bs : List ℕ) (done gone : ℕ) (w v : Lists) (q : Part) (k : K
 unfolding treeBits leaves reversed least groups
 group-placed bs done gone w v q k t f s r =
     let head : List ℕ = header k (moreChildren f) in
-    let body : List ℕ = treeBits t ++ forestBits f in
+    let body : List ℕ = treeBits (v .hours) t ++ forestBits (v .hours) f in
     let size : length head ≡ 9 = omega (arith, length-bits 7 (moreChildren f)) in
     let after : place done (gone + 1) ≡ place done gone + length head = omega (arith, size) in
     record {
@@ -61,6 +63,9 @@ group-placed bs done gone w v q k t f s r =
       strand = r .strand;
       others = r .others;
       room = r .room;
+      low = r .low;
+      kept = r .kept;
+      entries = r .entries;
     }
 
 module _ {n floor done gone : ℕ} {s : List ℕ} (k : Kind) (t : Tree) (f : Forest) where
@@ -79,16 +84,20 @@ unfolding groups
 group-counts k t f = omega arith
 
 module _ (k : Kind) (bs : List ℕ) (n floor done gone : ℕ) (few : n ≤ 128) (nd : Node) (h : NodeAt bs (place done gone) nd)
-    (seen forward next : List ℕ) where
-  module _ (seen' forward' : List ℕ) (p : Part) where
-    pub child-leaf : gone < n → nd .tag ≡ 0 → LeafRead n floor (nd .value) done gone seen forward seen' forward' p
-        → ChildRead k bs n floor done gone seen forward next seen' forward' next p
+    (seen forward next hours : List ℕ) where
+  module _ (seen' forward' hours' : List ℕ) (p : Part) where
+    pub child-leaf : {bytes : List ℕ} → Ready bytes n done gone seen next hours → nd .tag ≡ 0
+        → LeafRead n floor (nd .value) (nd .hours) done gone seen forward hours seen' forward' hours' p
+        → ChildRead k bs n floor done gone seen forward next hours seen' forward' next hours' p
     unfolding treeBits leaves reversed least groups alternates
-    child-leaf opened e r =
+    child-leaf ready e r =
         let j : ℕ = nd .value in
         record {
           some = λ ok.
-              let (inside, above, unseen, room, marks, goes, same) = r .some ok in (
+              let (inside, above, unseen, room, marks, goes, stored, same) = r .some ok in
+              let time : hoursOf hours' j ≡ nd .hours =
+              ap (λ (l : List ℕ). getD l j 0) stored ∙ getD-set-same hours j (nd .hours) 0 (omega (arith, ready .entries)) in
+              let bits-same : leafFields j (nd .hours) ≡ treeBits hours' (leaf j) = ap (leafFields j) (sym time) in (
                 leaf j,
                 (refl, (tt, tt)),
                 record {
@@ -96,11 +105,13 @@ module _ (k : Kind) (bs : List ℕ) (n floor done gone : ℕ) (few : n ≤ 128) 
                   above = λ u m. subst (λ (v : ℕ). floor ≤ v) (sym (List·Memᴰ·eq-of-singleton m)) above;
                   unseen = λ u m. ap (λ (v : ℕ). getD seen v 0) (List·Memᴰ·eq-of-singleton m) ∙ unseen;
                   room = omega arith;
-                  fewer = omega arith;
+                  fewer = omega (arith, ready .opened);
                 },
                 record {
-                  stands = h .leafAt e;
-                  end = ap (λ (q : Part). place (q .done) (q .groups)) same ∙ omega (arith, length-bits 7 j);
+                  stands = subst (At bs (place done gone)) bits-same (h .leafAt e);
+                  end =
+                      ap (λ (q : Part). place (q .done) (q .groups)) same
+                      ∙ omega (arith, length-append (bits 7 j) (bits hoursBits (hoursOf hours' j)), length-bits 7 j, length-bits hoursBits (hoursOf hours' j));
                   number = ap (λ (q : Part). q .done) same ∙ omega arith;
                   groups = ap (λ (q : Part). q .groups) same ∙ omega arith;
                   least = ap (λ (q : Part). q .least) same;
@@ -109,46 +120,52 @@ module _ (k : Kind) (bs : List ℕ) (n floor done gone : ℕ) (few : n ≤ 128) 
                   strand = subst (λ (q : Part). Strand next (q .first) (j ∷ []) (q .last)) (sym same) (alone j);
                   others = λ u _. refl;
                   room = refl;
+                  low = subst (AllBelow (2 ^ hoursBits)) (sym stored) (below-set hours j (nd .hours) (ready .low) (h .low));
+                  kept = λ u out.
+                      ap (λ (l : List ℕ). getD l u 0) stored ∙ getD-set-other hours j u (nd .hours) 0 (λ q. out (List·Memᴰ·head q));
+                  entries = ap length stored ∙ length-set hours j (nd .hours);
                 },
               );
-          none = λ bad t may free s.
+          none = λ bad t may free g _ s.
               subst (λ (t : Tree). Free n floor done gone seen (ofTree t) → ⊥)
-              (sym (only-leaf j t (h .small) (free-small few free) (h .leafAt e) s))
+              (sym (only-leaf g j (nd .hours) t (h .small) (free-small few free) (h .leafAt e) s))
               (λ free.
               let here : List·Memᴰ j (j ∷ []) = List·Memᴰ·head refl in
               r .none bad (free .inside j here) (free .above j here) (free .unseen j here) (omega (arith, free .room)))
               free;
         }
 
-  module _ (seen' forward' next' : List ℕ) (p : Part) where
-    refusal : p .ok ≡ false → ((t : Tree) → PlainUnder k t → Free n floor done gone seen (ofTree t) → At bs (place done gone) (treeBits t) → ⊥)
-        → ChildRead k bs n floor done gone seen forward next seen' forward' next' p
+  module _ (seen' forward' next' hours' : List ℕ) (p : Part) where
+    refusal : p .ok ≡ false
+        → ((t : Tree) → PlainUnder k t → Free n floor done gone seen (ofTree t)
+        → (g : List ℕ) → AllBelow (2 ^ hoursBits) g → At bs (place done gone) (treeBits g t) → ⊥)
+        → ChildRead k bs n floor done gone seen forward next hours seen' forward' next' hours' p
     refusal bad none = record { some = λ ok. absurd (clash ok bad); none = λ _. none }
 
     -- no node, or a kind directly in its kind
     pub child-none : (nd .tag ≡ 0 → ⊥) → (nd .tag ≡ suc (kindBit (other k)) → ⊥) → p ≡ refusedPart
-        → ChildRead k bs n floor done gone seen forward next seen' forward' next' p
+        → ChildRead k bs n floor done gone seen forward next hours seen' forward' next' hours' p
     child-none not-leaf not-other bad =
-        refusal (refused-not bad) λ t may free s.
+        refusal (refused-not bad) λ t may free g low s.
         ⊎-elim
-        (λ e. h .noneAt e t (free-small few free) s)
+        (λ e. h .noneAt e t (free-small few free) g low s)
         (λ e.
-        let g = only-group k (nd .value) t (h .small) (free-small few free) (h .groupAt k e) s in
-        clash (sym (ap (alternates k) (g .same)) ∙ may .0) (under-same k (g .first) (g .others)))
+        let i = only-group g k (nd .value) t (h .small) (free-small few free) (h .groupAt k e) s in
+        clash (sym (ap (alternates k) (i .same)) ∙ may .0) (under-same k (i .first) (i .others)))
         (no-child k (nd .tag) (h .tags) not-leaf not-other)
 
     module _ (e : nd .tag ≡ suc (kindBit (other k))) where
       -- a group too many
-      pub child-full : n ≤ gone + 1 → p ≡ refusedPart → ChildRead k bs n floor done gone seen forward next seen' forward' next' p
+      pub child-full : n ≤ gone + 1 → p ≡ refusedPart → ChildRead k bs n floor done gone seen forward next hours seen' forward' next' hours' p
       child-full full bad =
-          refusal (refused-not bad) λ t may free s.
-          let g = only-group (other k) (nd .value) t (h .small) (free-small few free) (h .groupAt (other k) e) s in
-          omega (arith, free .fewer, ap groups (g .same), group-counts (other k) (g .first) (g .others))
+          refusal (refused-not bad) λ t may free g _ s.
+          let i = only-group g (other k) (nd .value) t (h .small) (free-small few free) (h .groupAt (other k) e) s in
+          omega (arith, free .fewer, ap groups (i .same), group-counts (other k) (i .first) (i .others))
 
       -- a group: its children stand after its own bits
       pub child-group : (part : Part)
-          → ChildrenRead (other k) (nd .value) bs n done (gone + 1) seen forward next seen' forward' next' part → Above floor part p
-          → ChildRead k bs n floor done gone seen forward next seen' forward' next' p
+          → ChildrenRead (other k) (nd .value) bs n done (gone + 1) seen forward next hours seen' forward' next' hours' part → Above floor part p
+          → ChildRead k bs n floor done gone seen forward next hours seen' forward' next' hours' p
       unfolding treeBits leaves least moreChildren
       child-group part r g = record { some = λ ok. found ok (g .some ok); none = missing }
         where
@@ -159,10 +176,10 @@ module _ (k : Kind) (bs : List ℕ) (n floor done gone : ℕ) (few : n ≤ 128) 
           c = nd .value
 
           w : Lists
-          w = record { seen = seen; forward = forward; next = next }
+          w = record { seen = seen; forward = forward; next = next; hours = hours }
 
           v : Lists
-          v = record { seen = seen'; forward = forward'; next = next' }
+          v = record { seen = seen'; forward = forward'; next = next'; hours = hours' }
 
           -- the children are those of a group
           as-group : (f : Forest) → PlainChildren l c f → Placed bs done (gone + 1) w v part (ofForest l f) → (s : Tree) × (o : Forest)
@@ -186,23 +203,24 @@ module _ (k : Kind) (bs : List ℕ) (n floor done gone : ℕ) (few : n ≤ 128) 
                 subst (λ (x : Part). Placed bs done gone w v x (ofTree (node l s o))) (sym same) placed,
               )
 
-          missing : p .ok ≡ false → (t : Tree) → PlainUnder k t → Free n floor done gone seen (ofTree t) → At bs (place done gone) (treeBits t) → ⊥
-          missing bad t may free stands =
-              let i = only-group l c t (h .small) (free-small few free) (h .groupAt l e) stands in
-              let x : Tree = node l (i .first) (i .others) in
-              let may-x : PlainUnder k x = subst (PlainUnder k) (i .same) may in
-              let free-x : Free n floor done gone seen (ofTree x) = subst (λ (y : Tree). Free n floor done gone seen (ofTree y)) (i .same) free in
+          missing : p .ok ≡ false → (t : Tree) → PlainUnder k t → Free n floor done gone seen (ofTree t)
+              → (g : List ℕ) → AllBelow (2 ^ hoursBits) g → At bs (place done gone) (treeBits g t) → ⊥
+          missing bad t may free x low stands =
+              let i = only-group x l c t (h .small) (free-small few free) (h .groupAt l e) stands in
+              let s : Tree = node l (i .first) (i .others) in
+              let may-s : PlainUnder k s = subst (PlainUnder k) (i .same) may in
+              let free-s : Free n floor done gone seen (ofTree s) = subst (λ (y : Tree). Free n floor done gone seen (ofTree y)) (i .same) free in
               let after : place done gone + 9 ≡ place done (gone + 1) = omega arith in
               ⊎-elim
               (λ (good : part .ok ≡ true).
               let (f, m, free-f, q) = r .some good in
               let (s, o, split, placed) = as-group f m q in
               let small = subst (λ (y : Forest). Small (forestLeaves y)) split (free-small few free-f) in
-              let same : node l s o ≡ t = one-tree (node l s o) t small (free-small few free) (placed .stands) stands in
+              let same : node l s o ≡ t = one-tree hours' x (placed .low) low (node l s o) t small (free-small few free) (placed .stands) stands in
               g .none bad good (omega (arith, placed .least, ap least same, free .above (least t) (in-leaves t (least-in t)))))
               (λ (ill : part .ok ≡ false).
-              r .none ill (more (i .first) (i .others)) (ap suc (i .number), may-x .1 .0, may-x .1 .1) (children-free l (i .first) (i .others) free-x)
-              (subst (λ (a : ℕ). At bs a (forestBits (more (i .first) (i .others)))) after (i .children)))
+              r .none ill (more (i .first) (i .others)) (ap suc (i .number), may-s .1 .0, may-s .1 .1) (children-free l (i .first) (i .others) free-s)
+              x low (subst (λ (a : ℕ). At bs a (forestBits x (more (i .first) (i .others)))) after (i .children)))
               (decided (part .ok))
 
 -- a tree that stands in no group
@@ -214,7 +232,7 @@ module _ (bs : List ℕ) (n floor done gone : ℕ) (few : n ≤ 128) (nd : Node)
   unfolding kindBit alternates treeBits leaves reversed least groups moreChildren
   tree-child no-chain r = record {
     some = λ ok. let (f, may, free, placed) = r .some ok in only f may free placed;
-    none = λ bad t may free s. r .none bad (last t) (refl, (under t free s, may .0), may .1) free s;
+    none = λ bad t may free g low s. r .none bad (last t) (refl, (under t free g low s, may .0), may .1) free g low s;
   }
     where
       only : (f : Forest) → PlainChildren series 0 f → Free n floor done gone (w .seen) (ofForest series f) → Placed bs done gone w v p (ofForest series f)
@@ -229,17 +247,18 @@ module _ (bs : List ℕ) (n floor done gone : ℕ) (few : n ≤ 128) (nd : Node)
           (λ (h : nd .tag < 3). ⊎-elim (λ (e : suc (nd .tag) ≡ 3). inr (inl (omega arith))) (λ (l′ : suc (nd .tag) < 3). inl (omega arith)) (eq-or-lt-of-le h))
           (eq-or-lt-of-le l)
 
-      under : (t : Tree) → Free n floor done gone (w .seen) (ofTree t) → At bs (place done gone) (treeBits t) → alternates series t ≡ true
-      under t free s =
+      under : (t : Tree) → Free n floor done gone (w .seen) (ofTree t) → (g : List ℕ) → AllBelow (2 ^ hoursBits) g
+          → At bs (place done gone) (treeBits g t) → alternates series t ≡ true
+      under t free g low s =
           let small = free-small few free in
           ⊎-elim
-          (λ (e : nd .tag ≡ 0). ap (alternates series) (only-leaf (nd .value) t (h .small) small (h .leafAt e) s))
+          (λ (e : nd .tag ≡ 0). ap (alternates series) (only-leaf g (nd .value) (nd .hours) t (h .small) small (h .leafAt e) s))
           (λ rest.
           ⊎-elim
           (λ (e : nd .tag ≡ 2).
-          let g = only-group parallel (nd .value) t (h .small) small (h .groupAt parallel e) s in
-          ap (alternates series) (g .same) ∙ under-other series (g .first) (g .others))
-          (λ (e : nd .tag ≡ 3). absurd (h .noneAt e t small s))
+          let i = only-group g parallel (nd .value) t (h .small) small (h .groupAt parallel e) s in
+          ap (alternates series) (i .same) ∙ under-other series (i .first) (i .others))
+          (λ (e : nd .tag ≡ 3). absurd (h .noneAt e t small g low s))
           rest)
           (tags (h .tags))
 
@@ -247,9 +266,9 @@ module _ (bs : List ℕ) (n floor done gone : ℕ) (few : n ≤ 128) (nd : Node)
   unfolding kindBit
   tree-chain e r = record {
     some = λ ok. let (t, may, free, placed) = r .some ok in (t, may .1, free, placed);
-    none = λ bad t may free s.
-        let g = only-group series (nd .value) t (h .small) (free-small few free) (h .groupAt series e) s in
-        r .none bad t (ap (alternates parallel) (g .same) ∙ under-other parallel (g .first) (g .others), may) free s;
+    none = λ bad t may free g low s.
+        let i = only-group g series (nd .value) t (h .small) (free-small few free) (h .groupAt series e) s in
+        r .none bad t (ap (alternates parallel) (i .same) ∙ under-other parallel (i .first) (i .others), may) free g low s;
   }
 
   -- a chain where there can be no group
@@ -257,7 +276,7 @@ module _ (bs : List ℕ) (n floor done gone : ℕ) (few : n ≤ 128) (nd : Node)
   unfolding kindBit
   tree-full e full bad = record {
     some = λ ok. absurd (clash ok (refused-not bad));
-    none = λ _ t may free s.
-        let g = only-group series (nd .value) t (h .small) (free-small few free) (h .groupAt series e) s in
-        omega (arith, free .fewer, ap groups (g .same), group-counts series (g .first) (g .others));
+    none = λ _ t may free g _ s.
+        let i = only-group g series (nd .value) t (h .small) (free-small few free) (h .groupAt series e) s in
+        omega (arith, free .fewer, ap groups (i .same), group-counts series (i .first) (i .others));
   }

@@ -1,5 +1,5 @@
 -- The children of a group of kind k, read one after another.
-use Prim.Native.Nat.{ℕ, suc, _+_, _-_, _≤_, _<_, min}
+use Prim.Native.Nat.{ℕ, suc, _+_, _-_, _^_, _≤_, _<_, min}
 use mathlib.Core.Path.{_≡_, refl, sym, ap, ap₂, subst, _∙_}
 use mathlib.Core.List.{List, _++_, List·Memᴰ, Memᴰ·append-left, Memᴰ·append-right}
 use mathlib.Core.Bool.{Bool, true, false}
@@ -12,8 +12,9 @@ use Rattle.poset.proofs.Laws.{decided, clash, same-count-mem}
 use Rattle.poset.proofs.Shape.{OnceForest, in-leaves, leaves-in, forestLeaves-in}
 use Rattle.poset.proofs.Canonical.{CanonForest, least-in}
 use Rattle.poset.proofs.Realizer.{reversed-count}
-use Rattle.record.specs.Bits.{bitsOf}
-use Rattle.record.specs.Layout.{moreChildren, treeBits, forestBits}
+use Rattle.record.specs.Bits.{AllBelow, bitsOf}
+use Rattle.record.specs.Layout.{hoursBits, moreChildren, treeBits, forestBits}
+use Rattle.record.proofs.Sizes.{length-treeBits}
 use Rattle.reader.specs.Fields.{At}
 use Rattle.reader.specs.Parts.{Piece, Lists, marked, Strand, place, Ready, Free, Placed, Found, PlainUnder, PlainChildren, ofTree, ofForest}
 use Rattle.reader.specs.Parts.{unreadPart, front, behind, longer, longerNext}
@@ -57,7 +58,8 @@ linkedPart k p q =
     }
 
 abbrev linkedLists : Kind → Lists → Part → Part → Lists
-linkedLists k v p q = record { seen = v .seen; forward = v .forward; next = set (v .next) (front k p q .last) (behind k p q .first) }
+linkedLists k v p q =
+    record { seen = v .seen; forward = v .forward; next = set (v .next) (front k p q .last) (behind k p q .first); hours = v .hours }
 
 module _ (k : Kind) (p q : Part) where
   longer-first : p .ok ≡ false → longer k p q ≡ q
@@ -94,9 +96,13 @@ module _ (k : Kind) (bs : List ℕ) (done gone : ℕ) (w v v' : Lists) (x y : Pi
       (Memᴰ·append-left (y .forth) (back-in sound-x (strand-last (a .strand))))
       (Memᴰ·append-right (x .forth) (back-in sound-y (strand-last (b .strand)))) in
       let end : ℕ = front k p q .last in
+      let first : List ℕ = x .spelt (v' .hours) in
+      let second : List ℕ = y .spelt (v' .hours) in
+      let same : x .spelt (v .hours) ≡ first = sound-x .agrees (v .hours) (v' .hours) (λ u m. sym (b .kept u (apart u m))) in
+      let here : place (p .done) (p .groups) ≡ place done gone + length first = a .end ∙ ap (λ (l : List ℕ). place done gone + length l) same in
       record {
-        stands = at-join (x .spelt) (y .spelt) (a .stands) (subst (λ (i : ℕ). At bs i (y .spelt)) (a .end) (b .stands));
-        end = omega (arith, a .end, b .end, length-append (x .spelt) (y .spelt));
+        stands = at-join first second (subst (At bs (place done gone)) same (a .stands)) (subst (λ (i : ℕ). At bs i second) here (b .stands));
+        end = omega (arith, here, b .end, length-append first second);
         number = omega (arith, a .number, b .number, length-append (x .forth) (y .forth));
         groups = omega (arith, a .groups, b .groups);
         least = ap₂ min (a .least) (b .least);
@@ -114,6 +120,9 @@ module _ (k : Kind) (bs : List ℕ) (done gone : ℕ) (w v v' : Lists) (x y : Pi
             ∙ b .others u (λ m. out (Memᴰ·append-right (x .forth) m))
             ∙ a .others u (λ m. out (Memᴰ·append-left (y .forth) m));
         room = length-set (v' .next) end (behind k p q .first) ∙ rooms;
+        low = b .low;
+        kept = λ u out. b .kept u (λ m. out (Memᴰ·append-right (x .forth) m)) ∙ a .kept u (λ m. out (Memᴰ·append-left (y .forth) m));
+        entries = b .entries ∙ a .entries;
       }
 
 -- what a child that was found is bounded by
@@ -134,37 +143,42 @@ child-bounded k {p = p} small r ok =
 -- no c + 1 children stand there
 abbrev NoneFrom : Kind → ℕ → List ℕ → (n floor done gone : ℕ) → List ℕ → Type 0
 NoneFrom k c bs n floor done gone seen =
-    (f : Forest) → PlainChildren k c f → Free n floor done gone seen (ofForest k f) → At bs (place done gone) (forestBits f) → ⊥
+    (f : Forest) → PlainChildren k c f → Free n floor done gone seen (ofForest k f)
+    → (hours : List ℕ) → AllBelow (2 ^ hoursBits) hours → At bs (place done gone) (forestBits hours f) → ⊥
 
 module _ (k : Kind) (bs : List ℕ) (n floor done gone : ℕ) (few : n ≤ 128) (w v : Lists) (p : Part)
     (child : Found ofTree (PlainUnder k) bs n floor done gone w v p) where
   -- as no child does
   none-first : p .ok ≡ false → (c : ℕ) → NoneFrom k c bs n floor done gone (w .seen)
   unfolding leaves treeBits reversed least groups
-  none-first bad c (last t) may free s = child .none bad t (may .1 .0, (may .1 .1, may .2)) free s
-  none-first bad c (more t f) may free s =
-      child .none bad t (may .1 .0, (may .1 .1, may .2 .0)) (free-left k (ofTree t) (ofForest k f) free) (at-left (treeBits t) (forestBits f) s)
+  none-first bad c (last t) may free g low s = child .none bad t (may .1 .0, (may .1 .1, may .2)) free g low s
+  none-first bad c (more t f) may free g low s =
+      child .none bad t (may .1 .0, (may .1 .1, may .2 .0)) (free-left k (ofTree t) (ofForest k f) free)
+      g low (at-left (treeBits g t) (forestBits g f) s)
 
   -- as none do after the child
   none-after : p .ok ≡ true → (c : ℕ) → NoneFrom k c bs n (floorAfter k (p .least)) (p .done) (p .groups) (v .seen)
       → NoneFrom k (suc c) bs n floor done gone (w .seen)
   unfolding leaves treeBits reversed least groups moreChildren
-  none-after ok c none (last t) may free s = omega (arith, may .0)
-  none-after ok c none (more x f) may-x free-x s-x =
+  none-after ok c none (last t) may free g low s = omega (arith, may .0)
+  none-after ok c none (more x f) may-x free-x g low s-x =
       let (t, _, free-t, placed) = child .some ok in
       let small-x = free-small few (free-left k (ofTree x) (ofForest k f) free-x) in
-      let same : x ≡ t = one-tree x t small-x (free-small few free-t) (at-left (treeBits x) (forestBits f) s-x) (placed .stands) in
+      let same : x ≡ t =
+      one-tree g (v .hours) low (placed .low) x t small-x (free-small few free-t) (at-left (treeBits g x) (forestBits g f) s-x) (placed .stands) in
       let may : PlainChildren k (suc c) (more t f) = subst (λ (y : Tree). PlainChildren k (suc c) (more y f)) same may-x in
       let free : Free n floor done gone (w .seen) (both k (ofTree t) (ofForest k f)) =
       subst (λ (y : Tree). Free n floor done gone (w .seen) (both k (ofTree y) (ofForest k f))) same free-x in
-      let s : At bs (place done gone) (treeBits t ++ forestBits f) =
-      subst (λ (y : Tree). At bs (place done gone) (treeBits y ++ forestBits f)) same s-x in
+      let s : At bs (place done gone) (treeBits g t ++ forestBits g f) =
+      subst (λ (y : Tree). At bs (place done gone) (treeBits g y ++ forestBits g f)) same s-x in
+      let here : place done gone + length (treeBits g t) ≡ place (p .done) (p .groups) =
+      omega (arith, placed .end, length-treeBits g t, length-treeBits (v .hours) t) in
       let (_, _, canon, leads) = may .1 in
       let (_, once, apart) = may .2 in
       none f (omega (arith, may .0), canon, once)
       (free-right k (ofTree t) (ofForest k f) placed (floorAfter k (p .least)) free (λ u i j. apart u (leaves-in t i) (forestLeaves-in f j))
       (λ u m. subst (λ (a : ℕ). floorAfter k a ≤ u) (sym (placed .least)) (leads-above k t f leads u m)))
-      (subst (λ (i : ℕ). At bs i (forestBits f)) (sym (placed .end)) (at-right (treeBits t) (forestBits f) s))
+      g low (subst (λ (i : ℕ). At bs i (forestBits g f)) here (at-right (treeBits g t) (forestBits g f) s))
 
 -- some children that were read, and the floor under the next
 record Prefix (k : Kind) (bs : List ℕ) (n done gone : ℕ) (w v : Lists) (p : Part) (number floor : ℕ) : Type 0 where
@@ -217,7 +231,8 @@ module _ (k : Kind) (bs : List ℕ) (n done gone : ℕ) (w : Lists) where
           ground = ap (floorAfter k) (placed-t .least ∙ ap least (sym (snoc-last f t)));
         }
 
-    prefix-ready : {bytes : List ℕ} → Ready bytes n done gone (w .seen) (w .next) → Ready bytes n (p .done) (p .groups) (v .seen) (v .next)
+    prefix-ready : {bytes : List ℕ} → Ready bytes n done gone (w .seen) (w .next) (w .hours)
+        → Ready bytes n (p .done) (p .groups) (v .seen) (v .next) (v .hours)
     prefix-ready r = record {
       short = r .short;
       few = r .few;
@@ -225,6 +240,8 @@ module _ (k : Kind) (bs : List ℕ) (n done gone : ℕ) (w : Lists) where
       opened = omega (arith, x .placed .groups, x .free .fewer);
       marks = ap length (x .placed .seen) ∙ length-marked (w .seen) (forestLeaves (x .forest)) ∙ r .marks;
       links = x .placed .room ∙ r .links;
+      entries = x .placed .entries ∙ r .entries;
+      low = x .placed .low;
     }
 
     prefix-last : n ≤ 128 → p .last < 128
@@ -233,13 +250,13 @@ module _ (k : Kind) (bs : List ℕ) (n done gone : ℕ) (w : Lists) where
 -- the loop of a reader: of c + 1 children `left` are to come. The part is not ok before the first
 pub record Run (k : Kind) (bytes : List ℕ) (n c done gone : ℕ) (w : Lists) (left floor : ℕ) (v : Lists) (p : Part) : Type 0 where
   pub within : left ≤ c + 1
-  pub ready : Ready bytes n (p .done) (p .groups) (v .seen) (v .next)
+  pub ready : Ready bytes n (p .done) (p .groups) (v .seen) (v .next) (v .hours)
   pub onward : (done ≤ p .done) × (gone ≤ p .groups)
   begun : p .ok ≡ true → Prefix k (bitsOf bytes) n done gone w v p (c + 1 - left) floor
   unbegun : p .ok ≡ false → (p .done ≡ done) × (p .groups ≡ gone) × (v ≡ w) × (floor ≡ 0) × (left ≡ c + 1)
   missing : (l : ℕ) → left ≡ suc l → NoneFrom k l (bitsOf bytes) n floor (p .done) (p .groups) (v .seen) → NoneFrom k c (bitsOf bytes) n 0 done gone (w .seen)
 
-module _ (k : Kind) (bytes : List ℕ) (n c done gone : ℕ) (w : Lists) (r : Ready bytes n done gone (w .seen) (w .next)) where
+module _ (k : Kind) (bytes : List ℕ) (n c done gone : ℕ) (w : Lists) (r : Ready bytes n done gone (w .seen) (w .next) (w .hours)) where
   pub run-begin : (p : Part) → p ≡ unreadPart done gone → Run k bytes n c done gone w (c + 1) 0 w p
   run-begin p same = subst (λ (q : Part). Run k bytes n c done gone w (c + 1) 0 w q) (sym same) record {
     within = omega arith;
@@ -277,8 +294,12 @@ module _ (k : Kind) (bytes : List ℕ) (n c done gone : ℕ) (w : Lists) (r : Re
       }
 
       module _ (ok : q .ok ≡ true) where
+        -- the child's lists with that list of next jobs
+        abbrev linkedAs : List ℕ → Lists
+        linkedAs next = record { seen = v' .seen; forward = v' .forward; next = next; hours = v' .hours }
+
         abbrev after : Lists
-        after = record { seen = v' .seen; forward = v' .forward; next = longerNext k p q (v' .next) }
+        after = linkedAs (longerNext k p q (v' .next))
 
         child-first : p .ok ≡ false → Prefix k (bitsOf bytes) n done gone w v' q 1 (floorAfter k (q .least))
         child-first e =
@@ -289,14 +310,12 @@ module _ (k : Kind) (bytes : List ℕ) (n c done gone : ℕ) (w : Lists) (r : Re
             prefix-first k (bitsOf bytes) n done gone w v' q (subst (λ (i : ℕ). Found ofTree (PlainUnder k) (bitsOf bytes) n 0 done i w v' q) g at-done) ok
 
         as-longer : (p₁ : Part) (l : List ℕ) (number : ℕ) → longer k p q ≡ p₁ → longerNext k p q (v' .next) ≡ l → number ≡ c + 1 - (left - 1)
-            → Prefix k (bitsOf bytes) n done gone w (record { seen = v' .seen; forward = v' .forward; next = l }) p₁ number (floorAfter k (q .least))
+            → Prefix k (bitsOf bytes) n done gone w (linkedAs l) p₁ number (floorAfter k (q .least))
             → Prefix k (bitsOf bytes) n done gone w after (longer k p q) (c + 1 - (left - 1)) (floorAfter k (q .least))
         as-longer p₁ l number e f g x =
             subst (λ (i : ℕ). Prefix k (bitsOf bytes) n done gone w after (longer k p q) i (floorAfter k (q .least))) g
             (subst (λ (i : Part). Prefix k (bitsOf bytes) n done gone w after i number (floorAfter k (q .least))) (sym e)
-            (subst (λ (i : List ℕ).
-            Prefix k (bitsOf bytes) n done gone w (record { seen = v' .seen; forward = v' .forward; next = i }) p₁ number (floorAfter k (q .least)))
-            (sym f) x))
+            (subst (λ (i : List ℕ). Prefix k (bitsOf bytes) n done gone w (linkedAs i) p₁ number (floorAfter k (q .least))) (sym f) x))
 
         extended : Prefix k (bitsOf bytes) n done gone w after (longer k p q) (c + 1 - (left - 1)) (floorAfter k (q .least))
         extended =
@@ -311,16 +330,14 @@ module _ (k : Kind) (bytes : List ℕ) (n c done gone : ℕ) (w : Lists) (r : Re
 
         -- a child more
         pub run-more : (p′ : Part) (next : List ℕ) → p′ ≡ longer k p q → next ≡ longerNext k p q (v' .next)
-            → Run k bytes n c done gone w (left - 1) (floorAfter k (q .least)) (record { seen = v' .seen; forward = v' .forward; next = next }) p′
+            → Run k bytes n c done gone w (left - 1) (floorAfter k (q .least)) (linkedAs next) p′
         run-more p′ next same-part same-next =
-            let at : Lists = record { seen = v' .seen; forward = v' .forward; next = next } in
+            let at : Lists = linkedAs next in
             let floor′ : ℕ = floorAfter k (q .least) in
             let number : ℕ = c + 1 - (left - 1) in
             let x : Prefix k (bitsOf bytes) n done gone w at p′ number floor′ =
             subst (λ (i : Part). Prefix k (bitsOf bytes) n done gone w at i number floor′) (sym same-part)
-            (subst (λ (l : List ℕ).
-            Prefix k (bitsOf bytes) n done gone w (record { seen = v' .seen; forward = v' .forward; next = l }) (longer k p q) number floor′)
-            (sym same-next) extended) in
+            (subst (λ (l : List ℕ). Prefix k (bitsOf bytes) n done gone w (linkedAs l) (longer k p q) number floor′) (sym same-next) extended) in
             let dones : p′ .done ≡ q .done = ap (λ (i : Part). i .done) same-part ∙ longer-ends k p q .0 in
             let groups-same : p′ .groups ≡ q .groups = ap (λ (i : Part). i .groups) same-part ∙ longer-ends k p q .1 in
             record {

@@ -6,26 +6,26 @@ use mathlib.Core.Option.{Option·some-injective}
 use native.Mathlib.Omega.{arith}
 use lib.ListN.{length, getD, drop, length-append}
 use Rattle.poset.specs.Tree.{Kind, series, parallel, Tree, leaf, node, Forest, more, leaves, forestLeaves, groups}
-use Rattle.record.specs.Bits.{bits}
-use Rattle.record.specs.Layout.{kindBit, moreChildren, treeBits, forestBits}
+use Rattle.record.specs.Bits.{AllBelow, bits}
+use Rattle.record.specs.Layout.{hoursBits, kindBit, moreChildren, hoursOf, treeBits, forestBits}
 use Rattle.record.specs.Decode.{readTree}
-use Rattle.record.proofs.Below.{below-nil, below-cons}
+use Rattle.record.proofs.Below.{below-head}
 use Rattle.record.proofs.Fields.{length-bits}
 use Rattle.record.proofs.Sizes.{Small, groups-lt, forest-groups}
 use Rattle.record.proofs.Reading.{read-tree}
-use Rattle.reader.specs.Fields.{At, header}
+use Rattle.reader.specs.Fields.{At, leafFields, header}
 use Rattle.reader.proofs.Positions.{at-left, at-right, at-same, bits-injective}
 
 module _ {bs : List ℕ} {at : ℕ} where
-  pub one-tree : (s t : Tree) → Small (leaves s) → Small (leaves t) → At bs at (treeBits s) → At bs at (treeBits t) → s ≡ t
-  one-tree s t small-s small-t p q =
+  pub one-tree : (g h : List ℕ) → AllBelow (2 ^ hoursBits) g → AllBelow (2 ^ hoursBits) h → (s t : Tree) → Small (leaves s) → Small (leaves t)
+      → At bs at (treeBits g s) → At bs at (treeBits h t) → s ≡ t
+  one-tree g h low-g low-h s t small-s small-t p q =
       let d : ℕ = suc (groups s + groups t) in
-      let after : (r : Tree) → ℕ = λ r. at + length (treeBits r) in
-      ap (λ (r : Tree × List ℕ). r .0)
+      ap (λ (r : (Tree × List ℕ) × List ℕ). r .0 .0)
       (Option·some-injective _ _
-      (sym (read-tree s d small-s (omega arith) (drop (after s) bs))
+      (sym (read-tree g low-g s d small-s (omega arith) (drop (at + length (treeBits g s)) bs))
       ∙ ap (readTree d) (sym (p .these) ∙ q .these)
-      ∙ read-tree t d small-t (omega arith) (drop (after t) bs)))
+      ∙ read-tree h low-h t d small-t (omega arith) (drop (at + length (treeBits h t)) bs)))
 
   first-bit : (x y : ℕ) (xs ys : List ℕ) → At bs at (x ∷ xs) → At bs at (y ∷ ys) → x ≡ y
   first-bit x y xs ys p q = ap (λ (l : List ℕ). getD l 0 0) (sym (p .these) ∙ q .these)
@@ -38,24 +38,31 @@ kind-injective parallel series e = absurd (omega arith)
 kind-injective parallel parallel e = refl
 
 -- a group of that kind with that many children minus 1, and its children after its own bits
-pub record Group (bs : List ℕ) (at : ℕ) (k : Kind) (c : ℕ) (t : Tree) : Type 0 where
+pub record Group (bs : List ℕ) (at : ℕ) (k : Kind) (c : ℕ) (hours : List ℕ) (t : Tree) : Type 0 where
   pub first : Tree
   pub others : Forest
   pub same : t ≡ node k first others
   pub number : moreChildren others ≡ c
-  pub children : At bs (at + 9) (forestBits (more first others))
+  pub children : At bs (at + 9) (forestBits hours (more first others))
 
 module _ {bs : List ℕ} {at : ℕ} where
   -- a leaf's bits are those of that leaf alone
-  pub only-leaf : (j : ℕ) (t : Tree) → j < 128 → Small (leaves t) → At bs at (treeBits (leaf j)) → At bs at (treeBits t) → t ≡ leaf j
-  unfolding leaves
-  only-leaf j t h small p q = one-tree t (leaf j) small (below-cons h below-nil, omega arith) q p
-
-  pub only-group : (k : Kind) (c : ℕ) (t : Tree) → c < 128 → Small (leaves t) → At bs at (header k c) → At bs at (treeBits t) → Group bs at k c t
+  pub only-leaf : (hours : List ℕ) (j x : ℕ) (t : Tree) → j < 128 → Small (leaves t) → At bs at (leafFields j x) → At bs at (treeBits hours t)
+      → t ≡ leaf j
   unfolding treeBits leaves
-  only-group k c (leaf j) h small p q = absurd (omega (arith, first-bit 1 0 _ _ p q))
-  only-group k c (node l s f) h small p q =
-      let body : List ℕ = treeBits s ++ forestBits f in
+  only-leaf hours j x (leaf i) h small p q =
+      let same : 0 ∷ bits 7 i ≡ 0 ∷ bits 7 j =
+      at-same (0 ∷ bits 7 i) (0 ∷ bits 7 j) (omega (arith, length-bits 7 i, length-bits 7 j))
+      (at-left (0 ∷ bits 7 i) (bits hoursBits (hoursOf hours i)) q) (at-left (0 ∷ bits 7 j) (bits hoursBits x) p) in
+      ap leaf (bits-injective 7 i j (below-head (small .0)) h (ap (drop 1) same))
+  only-leaf hours j x (node k s f) h small p q = absurd (omega (arith, first-bit 0 1 _ _ p q))
+
+  pub only-group : (hours : List ℕ) (k : Kind) (c : ℕ) (t : Tree) → c < 128 → Small (leaves t) → At bs at (header k c) → At bs at (treeBits hours t)
+      → Group bs at k c hours t
+  unfolding treeBits leaves
+  only-group hours k c (leaf j) h small p q = absurd (omega (arith, first-bit 1 0 _ _ p q))
+  only-group hours k c (node l s f) h small p q =
+      let body : List ℕ = treeBits hours s ++ forestBits hours f in
       let number-small : moreChildren f < 2 ^ 7 =
       omega (arith, forest-groups f, groups-lt s, small .1, length-append (leaves s) (forestLeaves f)) in
       let heads : At bs at (header l (moreChildren f)) = at-left (header l (moreChildren f)) body q in

@@ -13,5 +13,6 @@ pub mod Calls
 pub mod Walks
 pub mod Later
 pub mod Sequences
+pub mod Hours
 pub mod Realized
 pub mod Whole

@@ -1,6 +1,6 @@
 -- Pieces one after another, and the children of a group with one more behind them.
 use Prim.Native.Nat.{ℕ, suc, _+_, _≤_, min}
-use mathlib.Core.Path.{_≡_, refl, sym, ap, subst, _∙_}
+use mathlib.Core.Path.{_≡_, refl, sym, ap, subst, fun-ext, _∙_}
 use mathlib.Core.List.{List, _++_, append-assoc, List·Memᴰ, Memᴰ·append-right, List·Memᴰ·append-cases}
 use mathlib.Core.Bool.{true}
 use mathlib.Core.Logic.{inl, ⊎-elim}
@@ -12,21 +12,22 @@ use Rattle.poset.proofs.Shape.{Once, OnceForest, in-leaves, in-forestLeaves, fo
 use Rattle.poset.proofs.Canonical.{Canon, CanonForest, Leads, least-in}
 use Rattle.poset.proofs.Meaning.{once-count}
 use Rattle.poset.proofs.Realizer.{reversed-count, forestReversed-count}
-use Rattle.record.specs.Layout.{moreChildren, treeBits}
+use Rattle.record.specs.Layout.{moreChildren, hoursOf, treeBits}
+use Rattle.record.proofs.Entries.{tree-agree, forest-agree}
 use Rattle.reader.specs.Parts.{Piece, ofTree, ofForest}
 
 -- x and then y, as children of a group of kind k
 abbrev pub both : Kind → Piece → Piece → Piece
 both k x y =
     record {
-      spelt = x .spelt ++ y .spelt;
+      spelt = λ hours. x .spelt hours ++ y .spelt hours;
       forth = x .forth ++ y .forth;
       back = joined k (x .back) (y .back);
       smallest = min (x .smallest) (y .smallest);
       inner = x .inner + y .inner;
     }
 
-abbrev piece : List ℕ → List ℕ → List ℕ → ℕ → ℕ → Piece
+abbrev piece : (List ℕ → List ℕ) → List ℕ → List ℕ → ℕ → ℕ → Piece
 piece s f b m i = record { spelt = s; forth = f; back = b; smallest = m; inner = i }
 
 joined-assoc : (k : Kind) (a b c : List ℕ) → joined k (joined k a b) c ≡ joined k a (joined k b c)
@@ -40,22 +41,23 @@ both-assoc k x y z =
     let b : List ℕ = joined k (joined k (x .back) (y .back)) (z .back) in
     let m : ℕ = min (min (x .smallest) (y .smallest)) (z .smallest) in
     let i : ℕ = x .inner + y .inner + z .inner in
-    let s′ : List ℕ = x .spelt ++ (y .spelt ++ z .spelt) in
+    let s′ : List ℕ → List ℕ = λ h. x .spelt h ++ (y .spelt h ++ z .spelt h) in
     let f′ : List ℕ = x .forth ++ (y .forth ++ z .forth) in
     let b′ : List ℕ = joined k (x .back) (joined k (y .back) (z .back)) in
     let m′ : ℕ = min (x .smallest) (min (y .smallest) (z .smallest)) in
     let same-m : m ≡ m′ = omega arith in
     let same-i : i ≡ x .inner + (y .inner + z .inner) = omega arith in
-    ap (λ (s : List ℕ). piece s f b m i) (append-assoc (x .spelt) (y .spelt) (z .spelt))
+    ap (λ (s : List ℕ → List ℕ). piece s f b m i) (fun-ext λ h. append-assoc (x .spelt h) (y .spelt h) (z .spelt h))
     ∙ ap (λ (f : List ℕ). piece s′ f b m i) (append-assoc (x .forth) (y .forth) (z .forth))
     ∙ ap (λ (b : List ℕ). piece s′ f′ b m i) (joined-assoc k (x .back) (y .back) (z .back))
     ∙ ap (λ (m : ℕ). piece s′ f′ b′ m i) same-m
     ∙ ap (λ (i : ℕ). piece s′ f′ b′ m′ i) same-i
 
--- a piece whose sequences have the same jobs, each once
+-- a piece whose sequences have the same jobs, each once, and whose bits depend on the hours of its jobs alone
 pub record Sound (x : Piece) : Type 0 where
   pub same : (u : ℕ) → occurrences u (x .back) ≡ occurrences u (x .forth)
   pub once : (u : ℕ) → occurrences u (x .forth) ≤ 1
+  pub agrees : (g h : List ℕ) → ((u : ℕ) → List·Memᴰ u (x .forth) → hoursOf g u ≡ hoursOf h u) → x .spelt g ≡ x .spelt h
 
 pub back-in : {x : Piece} → Sound x → {u : ℕ} → List·Memᴰ u (x .back) → List·Memᴰ u (x .forth)
 back-in s {u} m = same-count-mem (s .same u) m
@@ -64,7 +66,7 @@ pub back-once : {x : Piece} → Sound x → (u : ℕ) → occurrences u (x .back
 back-once s u = omega (arith, s .same u, s .once u)
 
 pub sound-tree : (t : Tree) → Once t → Sound (ofTree t)
-sound-tree t o = record { same = λ u. reversed-count t u; once = once-count t o }
+sound-tree t o = record { same = λ u. reversed-count t u; once = once-count t o; agrees = λ g h e. tree-agree g h t e }
 
 forest-once : (f : Forest) → OnceForest f → (u : ℕ) → occurrences u (forestLeaves f) ≤ 1
 unfolding leaves
@@ -72,7 +74,7 @@ forest-once (last t) o u = once-count t o u
 forest-once (more t f) o u = once-count (node series t f) o u
 
 pub sound-forest : (k : Kind) (f : Forest) → OnceForest f → Sound (ofForest k f)
-sound-forest k f o = record { same = λ u. forestReversed-count f k u; once = forest-once f o }
+sound-forest k f o = record { same = λ u. forestReversed-count f k u; once = forest-once f o; agrees = λ g h e. forest-agree g h f e }
 
 -- the floor under the children of a group after one whose smallest job is m
 

@@ -13,8 +13,8 @@ pub refused-not : {p : Part} → p ≡ refusedPart → p .ok ≡ false
 refused-not e = ap (λ (p : Part). p .ok) e
 
 pub refused-leaf
-    : {n floor job done gone : ℕ} {seen forward seen' forward' : List ℕ} {p : Part} → p ≡ refusedPart
-    → (job < n → floor ≤ job → getD seen job 0 ≡ 0 → done < n → ⊥) → LeafRead n floor job done gone seen forward seen' forward' p
+    : {n floor job x done gone : ℕ} {seen forward hours seen' forward' hours' : List ℕ} {p : Part} → p ≡ refusedPart
+    → (job < n → floor ≤ job → getD seen job 0 ≡ 0 → done < n → ⊥) → LeafRead n floor job x done gone seen forward hours seen' forward' hours' p
 refused-leaf e failed = record { some = λ ok. absurd (clash ok (refused-not e)); none = λ _. failed }
 
 pub refused-below : {floor : ℕ} {part p : Part} → p ≡ refusedPart → (floor ≤ part .least → ⊥) → Above floor part p

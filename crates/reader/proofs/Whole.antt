@@ -1,11 +1,11 @@
 -- A record as a whole: the job count, the tree, and the bits left over.
-use Prim.Native.Nat.{ℕ, suc, _+_, _-_, _*_, _≤_, _<_}
-use mathlib.Core.Path.{_≡_, sym, ap, ap₂, subst, _∙_}
+use Prim.Native.Nat.{ℕ, suc, _+_, _-_, _*_, _^_, _≤_, _<_}
+use mathlib.Core.Path.{_≡_, refl, sym, ap, ap₂, subst, _∙_}
 use mathlib.Core.List.{List, _++_, List·Memᴰ·head, List·Memᴰ·tail}
 use mathlib.Core.Bool.{true, false}
 use mathlib.Core.Option.{none}
 use native.Mathlib.Omega.{arith}
-use lib.ListN.{length, getD, drop, replicate, length-append, getD-replicate}
+use lib.ListN.{length, getD, take, drop, replicate, length-append, length-replicate, getD-replicate}
 use lib.Seq.{drop-at}
 use mir.Syntax.{w8}
 use mir.Val.{Fits}
@@ -14,16 +14,16 @@ use Rattle.poset.proofs.Laws.{clash}
 use Rattle.poset.proofs.Canonical.{canon, canon-canonical}
 use Rattle.poset.proofs.Meaning.{spans-holds}
 use Rattle.record.specs.Bits.{AllBelow, bits, bitsOf}
-use Rattle.record.specs.Layout.{treeBits, IsRecord}
+use Rattle.record.specs.Layout.{hoursBits, recordRoom, treeBits, IsRecord}
 use Rattle.record.specs.Decode.{decode, fills}
 use Rattle.record.proofs.Fields.{length-bits}
 use Rattle.record.proofs.Bytes.{Filled, length-bitsOf, filled-unique}
-use Rattle.record.proofs.Sizes.{leaves-below, length-leaves, length-spans, groups-lt}
+use Rattle.record.proofs.Sizes.{leaves-below, length-leaves, length-spans, length-treeBits, groups-lt}
 use Rattle.record.proofs.Tests.{fills-zeros, zeros-fill}
 use Rattle.record.proofs.Records.{layout-filled}
 use Rattle.record.proofs.Theorems.{decode-record, decode-none, layout-length}
 use Rattle.reader.specs.Fields.{At, FieldAt}
-use Rattle.reader.specs.Parts.{Lists, walk, place, Free, Found, Plain, ofTree}
+use Rattle.reader.specs.Parts.{Lists, walk, place, Ready, Free, Found, Plain, ofTree}
 use Rattle.reader.specs.Answer.{reading}
 use Rattle.poset.specs.Areas.{padded}
 use Rattle.reader.specs.declared.parts.Part.{Part}
@@ -32,6 +32,7 @@ use Rattle.reader.proofs.Positions.{at-of, at-left, at-right, at-join, 
 use Rattle.reader.proofs.Marks.{free-small}
 use Rattle.reader.proofs.Inversion.{one-tree}
 use Rattle.reader.proofs.Sequences.{forward-leaves, walk-reversed, walk-below}
+use Rattle.reader.proofs.Hours.{zeros-at, below-take, hours-each, hours-padded, hours-spelt}
 
 -- a list whose elements are small
 all-below : (m : ℕ) (xs : List ℕ) → ((i : ℕ) → getD xs i 0 < m) → AllBelow m xs
@@ -43,46 +44,70 @@ pub slice-below : (bytes : List ℕ) → ((i : ℕ) → Fits w8 (getD bytes i 0)
 slice-below bytes fit = all-below 256 bytes (λ i. fit i .fits)
 
 -- what the bits of a record are
-record Spelt (bytes : List ℕ) (n : ℕ) (t : Tree) : Type 0 where
+record Spelt (bytes : List ℕ) (n : ℕ) (t : Tree) (hours : List ℕ) : Type 0 where
   count-at : At (bitsOf bytes) 0 (bits 7 (n - 1))
-  tree-at : At (bitsOf bytes) 7 (treeBits t)
-  rest : fills (drop (7 + length (treeBits t)) (bitsOf bytes)) ≡ true
+  tree-at : At (bitsOf bytes) 7 (treeBits hours t)
+  rest : fills (drop (7 + length (treeBits hours t)) (bitsOf bytes)) ≡ true
 
-record-spelt : (bytes : List ℕ) (n : ℕ) (t : Tree) → IsRecord bytes n t → Spelt bytes n t
-record-spelt bytes n t r =
-    let f = layout-filled n t in
+record-spelt : (bytes : List ℕ) (n : ℕ) (t : Tree) (hours : List ℕ) → IsRecord bytes n t hours → Spelt bytes n t hours
+record-spelt bytes n t hours r =
+    let f = layout-filled n hours t in
     let head : List ℕ = bits 7 (n - 1) in
+    let body : List ℕ = treeBits hours t in
     let zeros : List ℕ = replicate (f .fill) 0 in
-    let same : bitsOf bytes ≡ (head ++ treeBits t) ++ zeros = sym (ap bitsOf (r .spelt)) ∙ f .same in
-    let both : At (bitsOf bytes) 0 (head ++ treeBits t) = at-of (head ++ treeBits t) zeros (omega arith) same in
+    let same : bitsOf bytes ≡ (head ++ body) ++ zeros = sym (ap bitsOf (r .spelt)) ∙ f .same in
+    let both : At (bitsOf bytes) 0 (head ++ body) = at-of (head ++ body) zeros (omega arith) same in
     let size : 0 + length head ≡ 7 = omega (arith, length-bits 7 (n - 1)) in
     record {
-      count-at = at-left head (treeBits t) both;
-      tree-at = subst (λ (i : ℕ). At (bitsOf bytes) i (treeBits t)) size (at-right head (treeBits t) both);
+      count-at = at-left head body both;
+      tree-at = subst (λ (i : ℕ). At (bitsOf bytes) i body) size (at-right head body both);
       rest =
           ap fills
-          (ap (drop (7 + length (treeBits t))) same
-          ∙ drop-at (head ++ treeBits t) zeros (7 + length (treeBits t)) (omega (arith, length-append head (treeBits t))))
+          (ap (drop (7 + length body)) same ∙ drop-at (head ++ body) zeros (7 + length body) (omega (arith, length-append head body)))
           ∙ fills-zeros (f .fill) (f .few);
+    }
+
+-- the bytes are no record
+abbrev NoRecord : List ℕ → Type 0
+NoRecord bytes = (n : ℕ) (t : Tree) (hours : List ℕ) → IsRecord bytes n t hours → ⊥
+
+-- the readers are given lists of zeros
+pub ready-first : (bytes : List ℕ) (m : ℕ) → length bytes ≤ recordRoom → FieldAt (bitsOf bytes) 0 7 m
+    → Ready bytes (m + 1) 0 0 (replicate 128 0) (replicate 128 0) (replicate 128 0)
+ready-first bytes m short count =
+    let small : m < 128 = count .small in
+    record {
+      short = short;
+      few = omega arith;
+      named = omega arith;
+      opened = omega arith;
+      marks = length-replicate {A = ℕ} 128 0;
+      links = length-replicate {A = ℕ} 128 0;
+      entries = length-replicate {A = ℕ} 128 0;
+      low = all-below (2 ^ hoursBits) (replicate 128 0) (λ i. omega (arith, zeros-at 128 i));
     }
 
 -- no record is empty, or too long
 
-pub none-empty : (bytes : List ℕ) → length bytes ≡ 0 → (n : ℕ) (t : Tree) → IsRecord bytes n t → ⊥
-none-empty bytes e n t r = omega (arith, record-spelt bytes n t r .count-at .within, length-bits 7 (n - 1), length-bitsOf bytes)
+pub none-empty : (bytes : List ℕ) → length bytes ≡ 0 → NoRecord bytes
+none-empty bytes e n t hours r = omega (arith, record-spelt bytes n t hours r .count-at .within, length-bits 7 (n - 1), length-bitsOf bytes)
 
-pub none-long : (bytes : List ℕ) → 272 < length bytes → (n : ℕ) (t : Tree) → IsRecord bytes n t → ⊥
-none-long bytes l n t r = omega (arith, ap length (r .spelt), layout-length n t (r .most) (r .spans) .2)
+pub none-long : (bytes : List ℕ) → recordRoom < length bytes → NoRecord bytes
+none-long bytes l n t hours r = omega (arith, ap length (r .spelt), layout-length n hours t (r .most) (r .spans) .2)
+
+-- the lists before any job is named, those of the sequences as they may be
+abbrev begun : List ℕ → List ℕ → Lists
+begun forward next = record { seen = replicate 128 0; forward = forward; next = next; hours = replicate 128 0 }
 
 -- a count, and the tree after it, if one was read
 module _ (bytes : List ℕ) (m : ℕ) (count : FieldAt (bitsOf bytes) 0 7 m) (forward next : List ℕ) (v : Lists) (p : Part)
-    (r : Found ofTree Plain (bitsOf bytes) (m + 1) 0 0 0 (record { seen = replicate 128 0; forward = forward; next = next }) v p) where
+    (r : Found ofTree Plain (bitsOf bytes) (m + 1) 0 0 0 (begun forward next) v p) where
   few : m + 1 ≤ 128
   few = let small : m < 128 = count .small in omega arith
 
-  module _ (n : ℕ) (t : Tree) (q : IsRecord bytes n t) where
-    spelt : Spelt bytes n t
-    spelt = record-spelt bytes n t q
+  module _ (n : ℕ) (t : Tree) (hours : List ℕ) (q : IsRecord bytes n t hours) where
+    spelt : Spelt bytes n t hours
+    spelt = record-spelt bytes n t hours q
 
     same-count : n ≡ m + 1
     same-count =
@@ -103,40 +128,48 @@ module _ (bytes : List ℕ) (m : ℕ) (count : FieldAt (bitsOf bytes) 0 7 m) (fo
     read-same : (ok : p .ok ≡ true) → r .some ok .0 ≡ t
     read-same ok =
         let (s, _, free-s, placed) = r .some ok in
-        one-tree s t (free-small few free-s) (free-small few free) (placed .stands) (spelt .tree-at)
+        one-tree (v .hours) hours (placed .low) (q .small) s t (free-small few free-s) (free-small few free) (placed .stands) (spelt .tree-at)
 
-  pub none-tree : p .ok ≡ false → (n : ℕ) (t : Tree) → IsRecord bytes n t → ⊥
-  none-tree bad n t q = r .none bad t (canon t (q .plain), spans-holds n t (q .spans) .0) (free n t q) (spelt n t q .tree-at)
+  pub none-tree : p .ok ≡ false → NoRecord bytes
+  none-tree bad n t hours q =
+      r .none bad t (canon t (q .plain), spans-holds n t (q .spans) .0) (free n t hours q) hours (q .small) (spelt n t hours q .tree-at)
 
-  pub none-count : p .ok ≡ true → (p .done ≡ m + 1 → ⊥) → (n : ℕ) (t : Tree) → IsRecord bytes n t → ⊥
-  none-count ok fewer n t q =
-      let same : length (leaves (r .some ok .0)) ≡ length (leaves t) = ap (λ (s : Tree). length (leaves s)) (read-same n t q ok) in
-      fewer (omega (arith, r .some ok .3 .number, length-leaves n t (q .spans), same-count n t q))
+  pub none-count : p .ok ≡ true → (p .done ≡ m + 1 → ⊥) → NoRecord bytes
+  none-count ok fewer n t hours q =
+      let same : length (leaves (r .some ok .0)) ≡ length (leaves t) = ap (λ (s : Tree). length (leaves s)) (read-same n t hours q ok) in
+      fewer (omega (arith, r .some ok .3 .number, length-leaves n t (q .spans), same-count n t hours q))
 
-  pub none-filled : p .ok ≡ true → fills (drop (place (p .done) (p .groups)) (bitsOf bytes)) ≡ false → (n : ℕ) (t : Tree) → IsRecord bytes n t → ⊥
-  none-filled ok bad n t q =
-      let end : place (p .done) (p .groups) ≡ 7 + length (treeBits t) =
-      r .some ok .3 .end ∙ ap (λ (s : Tree). 7 + length (treeBits s)) (read-same n t q ok) in
-      clash (ap (λ (i : ℕ). fills (drop i (bitsOf bytes))) end ∙ spelt n t q .rest) bad
+  pub none-filled : p .ok ≡ true → fills (drop (place (p .done) (p .groups)) (bitsOf bytes)) ≡ false → NoRecord bytes
+  none-filled ok bad n t hours q =
+      let same : length (treeBits (v .hours) (r .some ok .0)) ≡ length (treeBits (v .hours) t) =
+      ap (λ (s : Tree). length (treeBits (v .hours) s)) (read-same n t hours q ok) in
+      let end : place (p .done) (p .groups) ≡ 7 + length (treeBits hours t) =
+      omega (arith, r .some ok .3 .end, length-treeBits (v .hours) t, length-treeBits hours t) in
+      clash (ap (λ (i : ℕ). fills (drop i (bitsOf bytes))) end ∙ spelt n t hours q .rest) bad
 
   pub read-whole : AllBelow 256 bytes → (ok : p .ok ≡ true) → p .done ≡ m + 1 → fills (drop (place (p .done) (p .groups)) (bitsOf bytes)) ≡ true
-      → IsRecord bytes (m + 1) (r .some ok .0)
+      → IsRecord bytes (m + 1) (r .some ok .0) (take (m + 1) (v .hours))
   read-whole small ok all filled =
       let (t, plain, free-t, placed) = r .some ok in
       let rest : List ℕ = drop (place (p .done) (p .groups)) (bitsOf bytes) in
       let (spare, zeros) = zeros-fill rest filled in
       let head : List ℕ = bits 7 m in
       let size : 7 ≡ 0 + length head = omega (arith, length-bits 7 m) in
-      let both : At (bitsOf bytes) 0 (head ++ treeBits t) =
-      at-join head (treeBits t) (count .stands) (subst (λ (i : ℕ). At (bitsOf bytes) i (treeBits t)) size (placed .stands)) in
-      let end : 0 + length (head ++ treeBits t) ≡ place (p .done) (p .groups) = omega (arith, length-append head (treeBits t), placed .end) in
+      let hours : List ℕ = take (m + 1) (v .hours) in
+      let body : List ℕ = treeBits hours t in
+      let spelt : treeBits (v .hours) t ≡ body = hours-spelt t few refl free-t placed in
+      let both : At (bitsOf bytes) 0 (head ++ body) =
+      at-join head body (count .stands)
+      (subst (λ (i : ℕ). At (bitsOf bytes) i body) size (subst (At (bitsOf bytes) 7) spelt (placed .stands))) in
+      let end : 0 + length (head ++ body) ≡ place (p .done) (p .groups) =
+      omega (arith, length-append head body, placed .end, ap length spelt) in
       let less : m ≡ m + 1 - 1 = omega arith in
-      let as-filled : Filled (bits 7 (m + 1 - 1) ++ treeBits t) bytes = record {
+      let as-filled : Filled (bits 7 (m + 1 - 1) ++ body) bytes = record {
         fill = length rest;
         few = spare;
         same =
             both .these
-            ∙ ap₂ (λ (a b : List ℕ). (a ++ treeBits t) ++ b) (ap (bits 7) less) (ap (λ (i : ℕ). drop i (bitsOf bytes)) end ∙ zeros);
+            ∙ ap₂ (λ (a b : List ℕ). (a ++ body) ++ b) (ap (bits 7) less) (ap (λ (i : ℕ). drop i (bitsOf bytes)) end ∙ zeros);
         small = small;
       } in
       record {
@@ -144,7 +177,9 @@ module _ (bytes : List ℕ) (m : ℕ) (count : FieldAt (bitsOf bytes) 0 7 m) (fo
         most = few;
         spans = length-spans (m + 1) t (plain .1) (free-t .inside) (omega (arith, placed .number));
         plain = canon-canonical t (plain .0);
-        spelt = filled-unique (layout-filled (m + 1) t) as-filled;
+        each = hours-each t few refl free-t placed;
+        small = below-take (m + 1) (v .hours) (placed .low);
+        spelt = filled-unique (layout-filled (m + 1) hours t) as-filled;
       }
 
   pub tree-within : p .ok ≡ true → place (p .done) (p .groups) ≤ 8 * length bytes
@@ -158,16 +193,16 @@ module _ (bytes : List ℕ) (m : ℕ) (count : FieldAt (bitsOf bytes) 0 7 m) (fo
   pub reads-some : AllBelow 256 bytes → forward ≡ replicate 128 0 → p .ok ≡ true → p .done ≡ m + 1
       → fills (drop (place (p .done) (p .groups)) (bitsOf bytes)) ≡ true
       → (reverse : List ℕ) → reverse ≡ padded (walk (v .next) (m + 1) (p .first))
-      → record { ok = true; count = m + 1; groups = p .groups; forward = v .forward; reverse = reverse } ≡ reading (decode bytes)
+      → record { ok = true; count = m + 1; groups = p .groups; forward = v .forward; reverse = reverse; hours = v .hours } ≡ reading (decode bytes)
   reads-some small zeros ok all filled reverse e =
       let (t, _, free-t, placed) = r .some ok in
-      let made : (g : ℕ) (f b : List ℕ) → Reading = λ g f b. record { ok = true; count = m + 1; groups = g; forward = f; reverse = b } in
+      let made : (g : ℕ) (f b h : List ℕ) → Reading = λ g f b h.
+      record { ok = true; count = m + 1; groups = g; forward = f; reverse = b; hours = h } in
       let back : reverse ≡ padded (reversed t) = e ∙ ap padded (walk-reversed t few all free-t placed) in
       let groups-are : p .groups ≡ groups t = omega (arith, placed .groups) in
-      ap (λ (g : ℕ). made g (v .forward) reverse) groups-are
-      ∙ ap₂ (made (groups t)) (forward-leaves t few all free-t placed zeros) back
-      ∙ ap reading (sym (decode-record bytes (m + 1) t small .1 (read-whole small ok all filled)))
+      ap₂ (λ (g : ℕ) (h : List ℕ). made g (v .forward) reverse h) groups-are (hours-padded t few refl free-t placed)
+      ∙ ap₂ (λ (f b : List ℕ). made (groups t) f b (padded (take (m + 1) (v .hours)))) (forward-leaves t few all free-t placed zeros) back
+      ∙ ap reading (sym (decode-record bytes (m + 1) t (take (m + 1) (v .hours)) small .1 (read-whole small ok all filled)))
 
-pub reads-none : (bytes : List ℕ) (x : Reading) → AllBelow 256 bytes → ((n : ℕ) (t : Tree) → IsRecord bytes n t → ⊥) → x ≡ reading none
-    → x ≡ reading (decode bytes)
+pub reads-none : (bytes : List ℕ) (x : Reading) → AllBelow 256 bytes → NoRecord bytes → x ≡ reading none → x ≡ reading (decode bytes)
 reads-none bytes x small h r = r ∙ ap reading (sym (decode-none bytes small .1 h))

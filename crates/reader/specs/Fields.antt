@@ -5,9 +5,9 @@ use Prim.Native.Nat.{ℕ, suc, _+_, _≤_, _<_, _^_}
 use mathlib.Core.Path.{_≡_}
 use mathlib.Core.List.{List, _∷_, _++_}
 use lib.ListN.{length, drop}
-use Rattle.poset.specs.Tree.{Kind, Tree, leaf, leaves}
-use Rattle.record.specs.Bits.{bits}
-use Rattle.record.specs.Layout.{kindBit, treeBits}
+use Rattle.poset.specs.Tree.{Kind, Tree, leaves}
+use Rattle.record.specs.Bits.{AllBelow, bits}
+use Rattle.record.specs.Layout.{hoursBits, kindBit, treeBits}
 use Rattle.record.proofs.Sizes.{Small}
 use Rattle.reader.specs.declared.nodes.Node.{Node}
 
@@ -21,15 +21,20 @@ pub record FieldAt (bs : List ℕ) (at k x : ℕ) : Type 0 where
   pub stands : At bs at (bits k x)
   pub small : x < 2 ^ k
 
+-- a leaf's bits, by its job and its hours
+abbrev pub leafFields : ℕ → ℕ → List ℕ
+leafFields j x = 0 ∷ bits 7 j ++ bits hoursBits x
+
 -- a group's bits ahead of its children's
 abbrev pub header : Kind → ℕ → List ℕ
 header k c = 1 ∷ kindBit k ∷ bits 7 c
 
 -- the node is what a tree there would begin with
 pub record NodeAt (bs : List ℕ) (at : ℕ) (n : Node) : Type 0 where
-  pub leafAt : n .tag ≡ 0 → At bs at (treeBits (leaf (n .value)))
+  pub leafAt : n .tag ≡ 0 → At bs at (leafFields (n .value) (n .hours))
   pub groupAt : (k : Kind) → n .tag ≡ suc (kindBit k) → At bs at (header k (n .value))
-  pub noneAt : n .tag ≡ 3 → (t : Tree) → Small (leaves t) → At bs at (treeBits t) → ⊥
+  pub noneAt : n .tag ≡ 3 → (t : Tree) → Small (leaves t) → (hours : List ℕ) → AllBelow (2 ^ hoursBits) hours → At bs at (treeBits hours t) → ⊥
   pub several : (k : Kind) → n .tag ≡ suc (kindBit k) → 0 < n .value
   pub tags : n .tag ≤ 3
   pub small : n .value < 128
+  pub low : n .hours < 2 ^ hoursBits

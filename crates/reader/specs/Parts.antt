@@ -1,7 +1,7 @@
 -- What the readers of a record's parts owe: of a tree, and of the children of a group.
 -- For inner contracts alone: who reads the promises of read_record and order_of need not believe it, but specs/Answer.antt. So it may cite
 -- Once and Canon, which are the proofs' form of what poset's specs/ say by a count and a test.
-use Prim.Native.Nat.{ℕ, zero, suc, _+_, _*_, _≤_, _<_, min}
+use Prim.Native.Nat.{ℕ, zero, suc, _+_, _*_, _^_, _≤_, _<_, min}
 use mathlib.Core.Path.{_≡_}
 use mathlib.Core.List.{List, [], _∷_, List·Memᴰ}
 use mathlib.Core.Bool.{true, false}
@@ -11,30 +11,38 @@ use Rattle.poset.specs.Tree.{Kind, series, parallel, Tree, Forest, alternates}
 use Rattle.poset.specs.Tree.{leaves, forestLeaves, reversed, forestReversed, least, forestLeast, groups, forestGroups}
 use Rattle.poset.proofs.Shape.{Once, OnceForest}
 use Rattle.poset.proofs.Canonical.{Canon, CanonForest}
-use Rattle.record.specs.Layout.{moreChildren, treeBits, forestBits}
+use Rattle.record.specs.Bits.{AllBelow}
+use Rattle.record.specs.Layout.{hoursBits, leafBits, recordRoom, moreChildren, hoursOf, treeBits, forestBits}
 use Rattle.reader.specs.Fields.{At}
 use Rattle.reader.specs.declared.parts.Part.{Part}
 
--- a tree, or the children of a group, as a reader tells it
+-- a tree, or the children of a group, as a reader tells it; spelt by the hours of the jobs
 pub record Piece : Type 0 where
-  pub spelt : List ℕ
+  pub spelt : List ℕ → List ℕ
   pub forth : List ℕ
   pub back : List ℕ
   pub smallest : ℕ
   pub inner : ℕ
 
 abbrev pub ofTree : Tree → Piece
-ofTree t = record { spelt = treeBits t; forth = leaves t; back = reversed t; smallest = least t; inner = groups t }
+ofTree t = record { spelt = λ hours. treeBits hours t; forth = leaves t; back = reversed t; smallest = least t; inner = groups t }
 
 abbrev pub ofForest : Kind → Forest → Piece
 ofForest k f =
-    record { spelt = forestBits f; forth = forestLeaves f; back = forestReversed k f; smallest = forestLeast f; inner = forestGroups f }
+    record {
+      spelt = λ hours. forestBits hours f;
+      forth = forestLeaves f;
+      back = forestReversed k f;
+      smallest = forestLeast f;
+      inner = forestGroups f;
+    }
 
--- the work lists: the seen marks, the forward sequence, and for each job the one after it in the reverse sequence
+-- the work lists: the seen marks, the forward sequence, and for each job the one after it in the reverse sequence and its hours
 pub record Lists : Type 0 where
   pub seen : List ℕ
   pub forward : List ℕ
   pub next : List ℕ
+  pub hours : List ℕ
 
 abbrev pub marked : List ℕ → List ℕ → List ℕ
 marked seen [] = seen
@@ -52,16 +60,18 @@ walk next (suc k) x = x ∷ walk next k (getD next x 0)
 
 -- where a node begins: after the job count, the leaves and the groups ahead of it
 abbrev pub place : ℕ → ℕ → ℕ
-place done gone = 7 + 8 * done + 9 * gone
+place done gone = 7 + leafBits * done + 9 * gone
 
 -- what a reader is given: at most as many bytes and jobs as a record has, fewer groups than jobs, and lists for 128 jobs
-pub record Ready (bytes : List ℕ) (n done gone : ℕ) (seen next : List ℕ) : Type 0 where
-  pub short : length bytes ≤ 272
+pub record Ready (bytes : List ℕ) (n done gone : ℕ) (seen next hours : List ℕ) : Type 0 where
+  pub short : length bytes ≤ recordRoom
   pub few : n ≤ 128
   pub named : done ≤ n
   pub opened : gone < n
   pub marks : length seen ≡ 128
   pub links : length next ≡ 128
+  pub entries : length hours ≡ 128
+  pub low : AllBelow (2 ^ hoursBits) hours
 
 -- the jobs are below n, none is below the floor or marked; with those named so far they are at most n, and the groups fewer than n
 pub record Free (n floor done gone : ℕ) (seen : List ℕ) (x : Piece) : Type 0 where
@@ -73,8 +83,8 @@ pub record Free (n floor done gone : ℕ) (seen : List ℕ) (x : Piece) : Type 0
 
 -- the piece stands in the bits, and the part and the lists v, which were w, are those of it
 pub record Placed (bs : List ℕ) (done gone : ℕ) (w v : Lists) (p : Part) (x : Piece) : Type 0 where
-  pub stands : At bs (place done gone) (x .spelt)
-  pub end : place (p .done) (p .groups) ≡ place done gone + length (x .spelt)
+  pub stands : At bs (place done gone) (x .spelt (v .hours))
+  pub end : place (p .done) (p .groups) ≡ place done gone + length (x .spelt (v .hours))
   pub number : p .done ≡ done + length (x .forth)
   pub groups : p .groups ≡ gone + x .inner
   pub least : p .least ≡ x .smallest
@@ -83,11 +93,15 @@ pub record Placed (bs : List ℕ) (done gone : ℕ) (w v : Lists) (p : Part) (x 
   pub strand : Strand (v .next) (p .first) (x .back) (p .last)
   pub others : (u : ℕ) → (List·Memᴰ u (x .forth) → ⊥) → getD (v .next) u 0 ≡ getD (w .next) u 0
   pub room : length (v .next) ≡ length (w .next)
+  pub low : AllBelow (2 ^ hoursBits) (v .hours)
+  pub kept : (u : ℕ) → (List·Memᴰ u (x .forth) → ⊥) → hoursOf (v .hours) u ≡ hoursOf (w .hours) u
+  pub entries : length (v .hours) ≡ length (w .hours)
 
--- a reader found the one x that may stand there and does, or there is none
+-- a reader found the one x that may stand there and does, or there is none, whatever the hours
 pub record Found {X : Type 0} (piece : X → Piece) (May : X → Type 0) (bs : List ℕ) (n floor done gone : ℕ) (w v : Lists) (p : Part) : Type 0 where
   pub some : p .ok ≡ true → (x : X) × May x × Free n floor done gone (w .seen) (piece x) × Placed bs done gone w v p (piece x)
-  pub none : p .ok ≡ false → (x : X) → May x → Free n floor done gone (w .seen) (piece x) → At bs (place done gone) (piece x .spelt) → ⊥
+  pub none : p .ok ≡ false → (x : X) → May x → Free n floor done gone (w .seen) (piece x)
+      → (hours : List ℕ) → AllBelow (2 ^ hoursBits) hours → At bs (place done gone) (piece x .spelt hours) → ⊥
 
 -- any tree in canonical form, and one that may stand in a group of kind k
 abbrev pub Plain : Tree → Type 0
@@ -108,10 +122,11 @@ unreadPart done gone = record { ok = false; done = done; groups = gone; least = 
 abbrev pub refusedPart : Part
 refusedPart = unreadPart 0 0
 
--- one leaf
-pub record LeafRead (n floor job done gone : ℕ) (seen forward seen' forward' : List ℕ) (p : Part) : Type 0 where
+-- one leaf, whose job has the hours x
+pub record LeafRead (n floor job x done gone : ℕ) (seen forward hours seen' forward' hours' : List ℕ) (p : Part) : Type 0 where
   pub some : p .ok ≡ true
       → (job < n) × (floor ≤ job) × (getD seen job 0 ≡ 0) × (done < n) × (seen' ≡ set seen job 1) × (forward' ≡ set forward done job)
+      × (hours' ≡ set hours job x)
       × (p ≡ record { ok = true; done = done + 1; groups = gone; least = job; first = job; last = job })
   pub none : p .ok ≡ false → job < n → floor ≤ job → getD seen job 0 ≡ 0 → done < n → ⊥
 
@@ -152,22 +167,22 @@ longerNext k p q next = elim (p .ok) [ false ↦ next | true ↦ set next (front
 
 -- any tree, a child of a group of kind k, and c + 1 children of one
 
-abbrev pub TreeRead : List ℕ → (n floor done gone : ℕ) (seen forward next seen' forward' next' : List ℕ) → Part → Type 0
-TreeRead bs n floor done gone seen forward next seen' forward' next' =
+abbrev pub TreeRead : List ℕ → (n floor done gone : ℕ) (seen forward next hours seen' forward' next' hours' : List ℕ) → Part → Type 0
+TreeRead bs n floor done gone seen forward next hours seen' forward' next' hours' =
     Found ofTree Plain bs n floor done gone
-    (record { seen = seen; forward = forward; next = next })
-    (record { seen = seen'; forward = forward'; next = next' })
+    (record { seen = seen; forward = forward; next = next; hours = hours })
+    (record { seen = seen'; forward = forward'; next = next'; hours = hours' })
 
 abbrev pub ChildRead
-    : Kind → List ℕ → (n floor done gone : ℕ) (seen forward next seen' forward' next' : List ℕ) → Part → Type 0
-ChildRead k bs n floor done gone seen forward next seen' forward' next' =
+    : Kind → List ℕ → (n floor done gone : ℕ) (seen forward next hours seen' forward' next' hours' : List ℕ) → Part → Type 0
+ChildRead k bs n floor done gone seen forward next hours seen' forward' next' hours' =
     Found ofTree (PlainUnder k) bs n floor done gone
-    (record { seen = seen; forward = forward; next = next })
-    (record { seen = seen'; forward = forward'; next = next' })
+    (record { seen = seen; forward = forward; next = next; hours = hours })
+    (record { seen = seen'; forward = forward'; next = next'; hours = hours' })
 
 abbrev pub ChildrenRead
-    : Kind → ℕ → List ℕ → (n done gone : ℕ) (seen forward next seen' forward' next' : List ℕ) → Part → Type 0
-ChildrenRead k c bs n done gone seen forward next seen' forward' next' =
+    : Kind → ℕ → List ℕ → (n done gone : ℕ) (seen forward next hours seen' forward' next' hours' : List ℕ) → Part → Type 0
+ChildrenRead k c bs n done gone seen forward next hours seen' forward' next' hours' =
     Found (ofForest k) (PlainChildren k c) bs n 0 done gone
-    (record { seen = seen; forward = forward; next = next })
-    (record { seen = seen'; forward = forward'; next = next' })
+    (record { seen = seen; forward = forward; next = next; hours = hours })
+    (record { seen = seen'; forward = forward'; next = next'; hours = hours' })

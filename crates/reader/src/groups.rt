@@ -1,6 +1,7 @@
 // The readers of groups. Inside a series group (document 01: a chain) stand leaves and parallel groups, inside a parallel
 // group (a side group) leaves and series groups, so the two readers call each other, each over a reader of one child; from the one
 // reader to the other the bits left fall. A record has fewer groups than jobs, so reading stops at a group too many.
+use crate::nodes::LEAF_BITS;
 use crate::nodes::node_at;
 use crate::nodes::wide;
 use crate::parts::Part;
@@ -20,7 +21,7 @@ ghost use Rattle.reader.specs.Parts.{place, Ready, TreeRead, ChildRead, 
 pub fn place(done: u8, groups: u8) -> usize
     ensures { λ r. ⌜ r ≡ place done groups ⌝ }
 {
-    7 + 8 * wide(done) + 9 * wide(groups)
+    7 + LEAF_BITS * wide(done) + 9 * wide(groups)
 }
 
 // `more` + 1 children of a chain.
@@ -33,15 +34,26 @@ fn chain(
     seen: &mut [u8; 128],
     forward: &mut [u8; 128],
     next: &mut [u8; 128],
+    hours: &mut [u16; 128],
 ) -> Part
-    requires { ⌜ (more < 128) × Ready (now bytes) count done groups (now seen) (now next) ⌝ }
+    requires { ⌜ (more < 128) × Ready (now bytes) count done groups (now seen) (now next) (now hours) ⌝ }
     ensures { λ r. ⌜ ChildrenRead series more (bitsOf (now (bytes .entry))) count done groups
-        (now (seen .entry)) (now (forward .entry)) (now (next .entry)) (now (seen .exit)) (now (forward .exit)) (now (next .exit)) r ⌝ }
+        (now (seen .entry)) (now (forward .entry)) (now (next .entry)) (now (hours .entry))
+        (now (seen .exit)) (now (forward .exit)) (now (next .exit)) (now (hours .exit)) r ⌝ }
 {
     let mut part = unread(done, groups);
     let mut left = more + 1;
     while left > 0 {
-        let child = chain_child(bytes, count, part.done, part.groups, seen, forward, next);
+        let child = chain_child(
+            bytes,
+            count,
+            part.done,
+            part.groups,
+            seen,
+            forward,
+            next,
+            hours,
+        );
         if !child.ok {
             return child;
         }
@@ -61,14 +73,16 @@ fn chain_child(
     seen: &mut [u8; 128],
     forward: &mut [u8; 128],
     next: &mut [u8; 128],
+    hours: &mut [u16; 128],
 ) -> Part
-    requires { ⌜ Ready (now bytes) count done groups (now seen) (now next) ⌝ }
+    requires { ⌜ Ready (now bytes) count done groups (now seen) (now next) (now hours) ⌝ }
     ensures { λ r. ⌜ ChildRead series (bitsOf (now (bytes .entry))) count 0 done groups
-        (now (seen .entry)) (now (forward .entry)) (now (next .entry)) (now (seen .exit)) (now (forward .exit)) (now (next .exit)) r ⌝ }
+        (now (seen .entry)) (now (forward .entry)) (now (next .entry)) (now (hours .entry))
+        (now (seen .exit)) (now (forward .exit)) (now (next .exit)) (now (hours .exit)) r ⌝ }
 {
     let node = node_at(bytes, place(done, groups));
     if node.tag == 0 {
-        return leaf(count, 0, node.value, done, groups, seen, forward);
+        return leaf(count, 0, node, done, groups, seen, forward, hours);
     }
     if node.tag != 2 {
         return refused();
@@ -85,6 +99,7 @@ fn chain_child(
         seen,
         forward,
         next,
+        hours,
     )
 }
 
@@ -98,10 +113,12 @@ fn side(
     seen: &mut [u8; 128],
     forward: &mut [u8; 128],
     next: &mut [u8; 128],
+    hours: &mut [u16; 128],
 ) -> Part
-    requires { ⌜ (more < 128) × Ready (now bytes) count done groups (now seen) (now next) ⌝ }
+    requires { ⌜ (more < 128) × Ready (now bytes) count done groups (now seen) (now next) (now hours) ⌝ }
     ensures { λ r. ⌜ ChildrenRead parallel more (bitsOf (now (bytes .entry))) count done groups
-        (now (seen .entry)) (now (forward .entry)) (now (next .entry)) (now (seen .exit)) (now (forward .exit)) (now (next .exit)) r ⌝ }
+        (now (seen .entry)) (now (forward .entry)) (now (next .entry)) (now (hours .entry))
+        (now (seen .exit)) (now (forward .exit)) (now (next .exit)) (now (hours .exit)) r ⌝ }
 {
     let mut part = unread(done, groups);
     let mut floor = 0u8;
@@ -116,6 +133,7 @@ fn side(
             seen,
             forward,
             next,
+            hours,
         );
         if !child.ok {
             return child;
@@ -138,14 +156,16 @@ fn side_child(
     seen: &mut [u8; 128],
     forward: &mut [u8; 128],
     next: &mut [u8; 128],
+    hours: &mut [u16; 128],
 ) -> Part
-    requires { ⌜ Ready (now bytes) count done groups (now seen) (now next) ⌝ }
+    requires { ⌜ Ready (now bytes) count done groups (now seen) (now next) (now hours) ⌝ }
     ensures { λ r. ⌜ ChildRead parallel (bitsOf (now (bytes .entry))) count floor done groups
-        (now (seen .entry)) (now (forward .entry)) (now (next .entry)) (now (seen .exit)) (now (forward .exit)) (now (next .exit)) r ⌝ }
+        (now (seen .entry)) (now (forward .entry)) (now (next .entry)) (now (hours .entry))
+        (now (seen .exit)) (now (forward .exit)) (now (next .exit)) (now (hours .exit)) r ⌝ }
 {
     let node = node_at(bytes, place(done, groups));
     if node.tag == 0 {
-        return leaf(count, floor, node.value, done, groups, seen, forward);
+        return leaf(count, floor, node, done, groups, seen, forward, hours);
     }
     if node.tag != 1 {
         return refused();
@@ -162,6 +182,7 @@ fn side_child(
         seen,
         forward,
         next,
+        hours,
     );
     above(part, floor)
 }
@@ -173,17 +194,19 @@ pub fn tree(
     seen: &mut [u8; 128],
     forward: &mut [u8; 128],
     next: &mut [u8; 128],
+    hours: &mut [u16; 128],
 ) -> Part
-    requires { ⌜ Ready (now bytes) count 0 0 (now seen) (now next) ⌝ }
+    requires { ⌜ Ready (now bytes) count 0 0 (now seen) (now next) (now hours) ⌝ }
     ensures { λ r. ⌜ TreeRead (bitsOf (now (bytes .entry))) count 0 0 0
-        (now (seen .entry)) (now (forward .entry)) (now (next .entry)) (now (seen .exit)) (now (forward .exit)) (now (next .exit)) r ⌝ }
+        (now (seen .entry)) (now (forward .entry)) (now (next .entry)) (now (hours .entry))
+        (now (seen .exit)) (now (forward .exit)) (now (next .exit)) (now (hours .exit)) r ⌝ }
 {
     let node = node_at(bytes, 7);
     if node.tag != 1 {
-        return chain(bytes, count, 0, 0, 0, seen, forward, next);
+        return chain(bytes, count, 0, 0, 0, seen, forward, next, hours);
     }
     if count == 1 {
         return refused();
     }
-    chain(bytes, count, node.value, 0, 1, seen, forward, next)
+    chain(bytes, count, node.value, 0, 1, seen, forward, next, hours)
 }

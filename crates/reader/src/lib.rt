@@ -9,6 +9,7 @@ use groups::tree;
 use nodes::field;
 use nodes::filled;
 use nodes::wide;
+use record::RECORD_ROOM;
 ghost use mathlib.Core.Path.{_≡_};
 ghost use Prim.Native.Nat.{_≤_};
 ghost use mathlib.Core.Option.{none};
@@ -18,14 +19,15 @@ ghost use Rattle.reader.specs.Answer.{reading};
 ghost use Rattle.reader.specs.Parts.{walk};
 ghost use Rattle.poset.specs.Areas.{padded};
 
-// ok: whether the bytes are a record. Then the job count, the number of groups, and the sequences, whose entries from the
-// count on are 0; all 0 otherwise.
+// ok: whether the bytes are a record. Then the job count, the number of groups, the sequences and the hours of each job, whose
+// entries from the count on are 0; all 0 otherwise.
 pub struct Reading {
     pub ok: bool,
     pub count: usize,
     pub groups: usize,
     pub forward: [u8; 128],
     pub reverse: [u8; 128],
+    pub hours: [u16; 128],
 }
 
 fn no_record() -> Reading
@@ -37,6 +39,7 @@ fn no_record() -> Reading
         groups: 0,
         forward: [0; 128],
         reverse: [0; 128],
+        hours: [0; 128],
     }
 }
 
@@ -61,14 +64,22 @@ pub fn read_record(bytes: &[u8]) -> Reading
     if bytes.len() == 0 {
         return no_record();
     }
-    if bytes.len() > 272 {
+    if bytes.len() > RECORD_ROOM {
         return no_record();
     }
     let count = field(bytes, 0, 7) + 1;
     let mut seen = [0u8; 128];
     let mut forward = [0u8; 128];
     let mut next = [0u8; 128];
-    let part = tree(bytes, count as u8, &mut seen, &mut forward, &mut next);
+    let mut hours = [0u16; 128];
+    let part = tree(
+        bytes,
+        count as u8,
+        &mut seen,
+        &mut forward,
+        &mut next,
+        &mut hours,
+    );
     if !part.ok {
         return no_record();
     }
@@ -85,5 +96,6 @@ pub fn read_record(bytes: &[u8]) -> Reading
         groups: part.groups as usize,
         forward: forward,
         reverse: reverse,
+        hours: hours,
     }
 }

@@ -3,14 +3,19 @@ ghost use mathlib.Core.Path.{_≡_};
 ghost use Prim.Native.Nat.{_+_, _*_, _≤_, _<_};
 ghost use lib.ListN.{length, drop};
 ghost use Rattle.record.specs.Bits.{bitsOf};
+ghost use Rattle.record.specs.Layout.{hoursBits, recordRoom};
 ghost use Rattle.record.specs.Decode.{fills};
 ghost use Rattle.reader.specs.Fields.{FieldAt, NodeAt};
 
+// The bits of a leaf: a 0, its job and its hours. No tree has fewer.
+pub const LEAF_BITS: usize = 20;
+
 // What a node begins with. tag: 0 a leaf, 1 a series group, 2 a parallel group, 3 none: the bits end, or a group has one
-// child. value: the job, or the children minus 1.
+// child. value: the job, or the children minus 1. hours: the job's.
 pub struct Node {
     pub tag: u8,
     pub value: u8,
+    pub hours: u16,
 }
 
 pub fn wide(x: u8) -> usize
@@ -21,7 +26,7 @@ pub fn wide(x: u8) -> usize
 
 // The number in the `width` bits from `at` on, of at most 8 bits: two bytes hold them.
 pub fn field(bytes: &[u8], at: usize, width: usize) -> usize
-    requires { ⌜ (0 < width) × (width ≤ 8) × (at + width ≤ 8 * length (now bytes)) × (length (now bytes) ≤ 272) ⌝ }
+    requires { ⌜ (0 < width) × (width ≤ 8) × (at + width ≤ 8 * length (now bytes)) × (length (now bytes) ≤ recordRoom) ⌝ }
     ensures { λ r. ⌜ FieldAt (bitsOf (now (bytes .entry))) at width r ⌝ }
 {
     let i = at / 8;
@@ -33,38 +38,56 @@ pub fn field(bytes: &[u8], at: usize, width: usize) -> usize
     (pair >> (16 - end)) % (1usize << width)
 }
 
+// The hours in the 12 bits from `at` on.
+fn hours_at(bytes: &[u8], at: usize) -> u16
+    requires { ⌜ (at + hoursBits ≤ 8 * length (now bytes)) × (length (now bytes) ≤ recordRoom) ⌝ }
+    ensures { λ r. ⌜ FieldAt (bitsOf (now (bytes .entry))) at hoursBits r ⌝ }
+{
+    let high = field(bytes, at, 8);
+    let low = field(bytes, at + 8, 4);
+    (high * 16 + low) as u16
+}
+
 // The node at `at`.
 pub fn node_at(bytes: &[u8], at: usize) -> Node
-    requires { ⌜ (at ≤ 2176) × (length (now bytes) ≤ 272) ⌝ }
+    requires { ⌜ (at ≤ 8 * recordRoom) × (length (now bytes) ≤ recordRoom) ⌝ }
     ensures { λ r. ⌜ NodeAt (bitsOf (now (bytes .entry))) at r ⌝ }
 {
     let end = 8 * bytes.len();
-    if end < at + 8 {
-        return Node { tag: 3, value: 0 };
+    if end < at + LEAF_BITS {
+        return Node {
+            tag: 3,
+            value: 0,
+            hours: 0,
+        };
     }
     let x = field(bytes, at, 8);
     if x < 128 {
+        let hours = hours_at(bytes, at + 8);
         return Node {
             tag: 0,
             value: x as u8,
+            hours: hours,
         };
-    }
-    if end < at + 9 {
-        return Node { tag: 3, value: 0 };
     }
     let more = x % 64 * 2 + field(bytes, at + 8, 1);
     if more == 0 {
-        return Node { tag: 3, value: 0 };
+        return Node {
+            tag: 3,
+            value: 0,
+            hours: 0,
+        };
     }
     Node {
         tag: (x / 64 - 1) as u8,
         value: more as u8,
+        hours: 0,
     }
 }
 
 // Whether the bits from `at` on fill the last byte with zeros, and no byte follows.
 pub fn filled(bytes: &[u8], at: usize) -> bool
-    requires { ⌜ (at ≤ 8 * length (now bytes)) × (length (now bytes) ≤ 272) ⌝ }
+    requires { ⌜ (at ≤ 8 * length (now bytes)) × (length (now bytes) ≤ recordRoom) ⌝ }
     ensures { λ r. ⌜ r ≡ fills (drop at (bitsOf (now (bytes .entry)))) ⌝ }
 {
     let left = 8 * bytes.len() - at;

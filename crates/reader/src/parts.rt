@@ -1,4 +1,5 @@
 // Parts of a record: what is read of a tree or of the children of a group, and the work lists beside it.
+use crate::nodes::Node;
 ghost use mathlib.Core.Path.{_≡_};
 ghost use mathlib.Core.Bool.{true};
 ghost use Prim.Native.Nat.{_≤_, _<_, min};
@@ -40,15 +41,18 @@ pub fn refused() -> Part
 pub fn leaf(
     count: u8,
     floor: u8,
-    job: u8,
+    node: Node,
     done: u8,
     groups: u8,
     seen: &mut [u8; 128],
     forward: &mut [u8; 128],
+    hours: &mut [u16; 128],
 ) -> Part
     requires { ⌜ (count ≤ 128) ⌝ }
-    ensures { λ r. ⌜ LeafRead count floor job done groups (now (seen .entry)) (now (forward .entry)) (now (seen .exit)) (now (forward .exit)) r ⌝ }
+    ensures { λ r. ⌜ LeafRead count floor (node .value) (node .hours) done groups (now (seen .entry)) (now (forward .entry)) (now (hours .entry))
+        (now (seen .exit)) (now (forward .exit)) (now (hours .exit)) r ⌝ }
 {
+    let job = node.value;
     if job >= count {
         return refused();
     }
@@ -65,6 +69,7 @@ pub fn leaf(
     seen[mark] = 1;
     let place = done as usize;
     forward[place] = job;
+    hours[mark] = node.hours;
     Part {
         ok: true,
         done: done + 1,

@@ -1,10 +1,11 @@
 -- Lists of numbers below a bound.
-use Prim.Native.Nat.{ℕ, _<_}
+use Prim.Native.Nat.{ℕ, zero, suc, _<_}
 use mathlib.Core.Path.{_≡_, refl, subst}
 use mathlib.Core.List.{List, [], _∷_, _++_, List·Memᴰ·head, List·Memᴰ·tail, List·Memᴰ·cases-cons, List·Memᴰ·not-nil}
 use mathlib.Core.List.{Memᴰ·append-left, Memᴰ·append-right, List·Memᴰ·append-cases}
 use mathlib.Core.Logic.{⊎-elim}
 use native.Mathlib.Omega.{arith}
+use lib.ListN.{set}
 use Rattle.record.specs.Bits.{AllBelow}
 
 module _ {m : ℕ} where
@@ -28,6 +29,12 @@ module _ {m : ℕ} where
 
   pub below-right : (xs ys : List ℕ) → AllBelow m (xs ++ ys) → AllBelow m ys
   below-right xs ys h x i = h x (Memᴰ·append-right xs i)
+
+  -- an entry exchanged
+  pub below-set : (xs : List ℕ) (i x : ℕ) → AllBelow m xs → x < m → AllBelow m (set xs i x)
+  below-set [] i x h l = below-nil
+  below-set (y ∷ ys) zero x h l = below-cons l (below-tail h)
+  below-set (y ∷ ys) (suc i) x h l = below-cons (below-head h) (below-set ys i x (below-tail h) l)
 
   -- what follows a part of such a list
   pub below-rest : (xs : List ℕ) {bs rest : List ℕ} → AllBelow m bs → bs ≡ xs ++ rest → AllBelow m rest

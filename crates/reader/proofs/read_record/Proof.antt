@@ -9,6 +9,7 @@ use Rattle.record.specs.Bits.{AllBelow, bitsOf}
 use Rattle.record.specs.Decode.{fills}
 use Rattle.reader.proofs.Whole.{
   slice-below,
+  ready-first,
   none-empty,
   none-long,
   none-tree,
@@ -51,7 +52,8 @@ cast-tree : tie.Need-cast-tree
 cast-tree c = search needs
 
 tree-requires : tie.Need-tree-requires
-tree-requires c κs = search needs
+tree-requires c κs =
+    ready-first _ _ (c .before .before .before .before .before .if2 .left) (c .before .before .before .before .field .ensures)
 
 no-record-requires-3 : tie.Need-no-record-requires-3
 no-record-requires-3 c κs = search needs
@@ -59,8 +61,8 @@ no-record-requires-3 c κs = search needs
 returns-3 : tie.Need-returns-3
 returns-3 c =
     let t = c .before .before .before in
-    let f = t .before .before .before .before .field .ensures in
-    reads-none _ _ (bytes-below (t .before .before .before .before .before .before .before))
+    let f = t .before .before .before .before .before .field .ensures in
+    reads-none _ _ (bytes-below (t .before .before .before .before .before .before .before .before))
     (none-tree _ _ f _ _ _ _ (t .tree .ensures) (not-true _ (c .before .if3 .taken)))
     (c .no-record3 .ensures)
 
@@ -73,8 +75,8 @@ no-record-requires-4 c κs = search needs
 returns-4 : tie.Need-returns-4
 returns-4 c =
     let t = c .before .before .before .before .before in
-    let f = t .before .before .before .before .field .ensures in
-    reads-none _ _ (bytes-below (t .before .before .before .before .before .before .before))
+    let f = t .before .before .before .before .before .field .ensures in
+    reads-none _ _ (bytes-below (t .before .before .before .before .before .before .before .before))
     (none-count _ _ f _ _ _ _ (t .tree .ensures) (not-false _ (c .before .before .before .if3 .left)) (c .before .if4 .taken))
     (c .no-record4 .ensures)
 
@@ -84,10 +86,11 @@ place-requires c κs = search needs
 filled-requires : tie.Need-filled-requires
 filled-requires c κs =
     let t = c .before .before .before .before .before in
-    let f = t .before .before .before .before .field .ensures in
+    let b = t .before .before .before .before .before .before .before .before .before .args .bytes .now in
+    let f = t .before .before .before .before .before .field .ensures in
     let within = tree-within _ _ f _ _ _ _ (t .tree .ensures) (not-false _ (c .before .before .before .if3 .left)) in (
-      subst (λ (i : ℕ). i ≤ 8 * length (t .before .before .before .before .before .before .before .before .args .bytes .now)) (sym (c .place .ensures)) within,
-      t .before .before .before .before .before .if2 .left,
+      subst (λ (i : ℕ). i ≤ 8 * length b) (sym (c .place .ensures)) within,
+      t .before .before .before .before .before .before .if2 .left,
     )
 
 no-record-requires-5 : tie.Need-no-record-requires-5
@@ -96,9 +99,9 @@ no-record-requires-5 c κs = search needs
 returns-5 : tie.Need-returns-5
 returns-5 c =
     let t = c .before .before .before .before .before .before .before .before in
-    let b = t .before .before .before .before .before .before .before .before .args .bytes .now in
-    let f = t .before .before .before .before .field .ensures in
-    reads-none _ _ (bytes-below (t .before .before .before .before .before .before .before))
+    let b = t .before .before .before .before .before .before .before .before .before .args .bytes .now in
+    let f = t .before .before .before .before .before .field .ensures in
+    reads-none _ _ (bytes-below (t .before .before .before .before .before .before .before .before))
     (none-filled _ _ f _ _ _ _ (t .tree .ensures) (not-false _ (c .before .before .before .before .before .before .if3 .left))
     (ap (λ (i : ℕ). fills (drop i (bitsOf b))) (sym (c .before .before .before .place .ensures)) ∙ sym (c .before .before .filled .ensures)
     ∙ not-true _ (c .before .if5 .taken)))
@@ -110,19 +113,19 @@ cast-in-turn c = search needs
 in-turn-requires : tie.Need-in-turn-requires
 in-turn-requires c κs =
     let t = c .before .before .before .before .before .before .before .before .before in
-    let f = t .before .before .before .before .field .ensures in
+    let f = t .before .before .before .before .before .field .ensures in
     walk-inside _ _ f _ _ _ _ (t .tree .ensures) (not-false _ (c .before .before .before .before .before .before .before .if3 .left))
     (c .before .before .before .before .before .if4 .left)
 
-cast-t8 : tie.Need-cast-t8
-cast-t8 c = search needs
+cast-t9 : tie.Need-cast-t9
+cast-t9 c = search needs
 
 returns-6 : tie.Need-returns-6
 returns-6 c =
     let t = c .before .before .before .before .before .before .before .before .before .before .before in
-    let b = t .before .before .before .before .before .before .before .before .args .bytes .now in
-    let f = t .before .before .before .before .field .ensures in
-    reads-some _ _ f _ _ _ _ (t .tree .ensures) (bytes-below (t .before .before .before .before .before .before .before)) refl
+    let b = t .before .before .before .before .before .before .before .before .before .args .bytes .now in
+    let f = t .before .before .before .before .before .field .ensures in
+    reads-some _ _ f _ _ _ _ (t .tree .ensures) (bytes-below (t .before .before .before .before .before .before .before .before)) refl
     (not-false _ (c .before .before .before .before .before .before .before .before .before .if3 .left))
     (c .before .before .before .before .before .before .before .if4 .left)
     (ap (λ (i : ℕ). fills (drop i (bitsOf b))) (sym (c .before .before .before .before .before .before .place .ensures))
@@ -153,5 +156,5 @@ read-record-spec =
     returns-5
     cast-in-turn
     in-turn-requires
-    cast-t8
+    cast-t9
     returns-6)

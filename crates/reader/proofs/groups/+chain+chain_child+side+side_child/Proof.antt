@@ -39,45 +39,45 @@ use Rattle.reader.proofs.parts.unread.Reads as unread-reads
 use Rattle.reader.proofs.groups.+chain+chain_child+side+side_child.{statement}
 use Rattle.reader.proofs.groups.+chain+chain_child+side+side_child.Tie.{close}
 
-abbrev μ-chain : Measures 4 chain-kinds.ps ℕ
+abbrev μ-chain : Measures 5 chain-kinds.ps ℕ
 μ-chain κs a = childrenMeasure (a .0 .now) (a .1 .1 .1 .0) (a .1 .1 .1 .1 .0)
 
-abbrev μ-chain-child : Measures 4 chain-child-kinds.ps ℕ
+abbrev μ-chain-child : Measures 5 chain-child-kinds.ps ℕ
 μ-chain-child κs a = childMeasure (a .0 .now) (a .1 .1 .0) (a .1 .1 .1 .0)
 
-abbrev μ-side : Measures 4 side-kinds.ps ℕ
+abbrev μ-side : Measures 5 side-kinds.ps ℕ
 μ-side κs a = childrenMeasure (a .0 .now) (a .1 .1 .1 .0) (a .1 .1 .1 .1 .0)
 
-abbrev μ-side-child : Measures 4 side-child-kinds.ps ℕ
+abbrev μ-side-child : Measures 5 side-child-kinds.ps ℕ
 μ-side-child κs a = childMeasure (a .0 .now) (a .1 .1 .1 .0) (a .1 .1 .1 .1 .0)
 
-abbrev chain-at : ℕ → In 4 chain-kinds.ps
-chain-at t = and 4 chain-kinds.ps (is 4 chain-kinds.ps μ-chain t) chain.Pre
+abbrev chain-at : ℕ → In 5 chain-kinds.ps
+chain-at t = and 5 chain-kinds.ps (is 5 chain-kinds.ps μ-chain t) chain.Pre
 
-abbrev chain-below : ℕ → In 4 chain-kinds.ps
-chain-below t = and 4 chain-kinds.ps (falls 4 chain-kinds.ps _<_ μ-chain t) chain.Pre
+abbrev chain-below : ℕ → In 5 chain-kinds.ps
+chain-below t = and 5 chain-kinds.ps (falls 5 chain-kinds.ps _<_ μ-chain t) chain.Pre
 
-abbrev chain-child-at : ℕ → In 4 chain-child-kinds.ps
+abbrev chain-child-at : ℕ → In 5 chain-child-kinds.ps
 chain-child-at t =
-    and 4 chain-child-kinds.ps (is 4 chain-child-kinds.ps μ-chain-child t) chain-child.Pre
+    and 5 chain-child-kinds.ps (is 5 chain-child-kinds.ps μ-chain-child t) chain-child.Pre
 
-abbrev chain-child-below : ℕ → In 4 chain-child-kinds.ps
+abbrev chain-child-below : ℕ → In 5 chain-child-kinds.ps
 chain-child-below t =
-    and 4 chain-child-kinds.ps (falls 4 chain-child-kinds.ps _<_ μ-chain-child t) chain-child.Pre
+    and 5 chain-child-kinds.ps (falls 5 chain-child-kinds.ps _<_ μ-chain-child t) chain-child.Pre
 
-abbrev side-at : ℕ → In 4 side-kinds.ps
-side-at t = and 4 side-kinds.ps (is 4 side-kinds.ps μ-side t) side.Pre
+abbrev side-at : ℕ → In 5 side-kinds.ps
+side-at t = and 5 side-kinds.ps (is 5 side-kinds.ps μ-side t) side.Pre
 
-abbrev side-below : ℕ → In 4 side-kinds.ps
-side-below t = and 4 side-kinds.ps (falls 4 side-kinds.ps _<_ μ-side t) side.Pre
+abbrev side-below : ℕ → In 5 side-kinds.ps
+side-below t = and 5 side-kinds.ps (falls 5 side-kinds.ps _<_ μ-side t) side.Pre
 
-abbrev side-child-at : ℕ → In 4 side-child-kinds.ps
+abbrev side-child-at : ℕ → In 5 side-child-kinds.ps
 side-child-at t =
-    and 4 side-child-kinds.ps (is 4 side-child-kinds.ps μ-side-child t) side-child.Pre
+    and 5 side-child-kinds.ps (is 5 side-child-kinds.ps μ-side-child t) side-child.Pre
 
-abbrev side-child-below : ℕ → In 4 side-child-kinds.ps
+abbrev side-child-below : ℕ → In 5 side-child-kinds.ps
 side-child-below t =
-    and 4 side-child-kinds.ps (falls 4 side-child-kinds.ps _<_ μ-side-child t) side-child.Pre
+    and 5 side-child-kinds.ps (falls 5 side-child-kinds.ps _<_ μ-side-child t) side-child.Pre
 
 -- what each knows of its calls
 
@@ -132,12 +132,12 @@ side-child-calls t = (
 )
 
 abbrev chain-Inv-loop : chain-lts.InvT-loop
-chain-Inv-loop bytes count more done groups seen₀ forward₀ next₀ part₀ left₀ seen forward next part left =
-    Run series bytes count more done groups (record { seen = seen₀; forward = forward₀; next = next₀ }) left 0
-    (record { seen = seen; forward = forward; next = next }) part
+chain-Inv-loop bytes count more done groups seen₀ forward₀ next₀ hours₀ part₀ left₀ seen forward next hours part left =
+    Run series bytes count more done groups (record { seen = seen₀; forward = forward₀; next = next₀; hours = hours₀ }) left 0
+    (record { seen = seen; forward = forward; next = next; hours = hours }) part
 
 abbrev chain-μ-loop : chain-lts.MeasureT-loop
-chain-μ-loop bytes count more done groups seen₀ forward₀ next₀ part₀ left₀ seen forward next part left = left
+chain-μ-loop bytes count more done groups seen₀ forward₀ next₀ hours₀ part₀ left₀ seen forward next hours part left = left
 
 chain-unread-requires : (t : ℕ) → chain-lts.Need-unread-requires (chain-calls t) (chain-at t) chain.Post chain-Inv-loop chain-μ-loop
 chain-unread-requires t c κs = tt
@@ -150,41 +150,41 @@ chain-loop-holds t c = run-begin series _ _ _ _ _ _ (c .before .before .pre .1 .
 
 chain-chain-child-requires : (t : ℕ) → chain-lts.Need-chain-child-requires (chain-calls t) (chain-at t) chain.Post chain-Inv-loop chain-μ-loop
 chain-chain-child-requires t c κs =
-    let l = c .before .before .before .before in
+    let l = c .before .before .before .before .before in
     call-child series _ (l .loop .inv) (l .before .before .before .pre .0)
 
 chain-returns : (t : ℕ) → chain-lts.Need-returns (chain-calls t) (chain-at t) chain.Post chain-Inv-loop chain-μ-loop
 chain-returns t c =
     let k = c .before .before in
-    let i = k .before .before .before .before in
+    let i = k .before .before .before .before .before in
     let p = i .before .before .before .before .pre in
     run-none series _ _ _ _ _ _ (p .1 .1) _ _ _ _ (i .before .loop .inv) _ _ (k .chain-child .ensures) (i .loop-test .taken) (not-true _ (c .if1 .taken))
 
 chain-chained-requires : (t : ℕ) → chain-lts.Need-chained-requires (chain-calls t) (chain-at t) chain.Post chain-Inv-loop chain-μ-loop
 chain-chained-requires t c κs =
     let k = c .before .before .before in
-    let i = k .before .before .before .before in
+    let i = k .before .before .before .before .before in
     let p = i .before .before .before .before .pre in
     run-last series _ _ _ _ _ _ (p .1 .1) _ _ _ _ (i .before .loop .inv)
 
 chain-sub-left : (t : ℕ) → chain-lts.Need-sub-left (chain-calls t) (chain-at t) chain.Post chain-Inv-loop chain-μ-loop
 chain-sub-left t c =
     let k = c .before .before .before .before in
-    let i = k .before .before .before .before in
+    let i = k .before .before .before .before .before in
     let p = i .before .before .before .before .pre in
     omega (arith, i .loop-test .taken)
 
 chain-loop-less : (t : ℕ) → chain-lts.Need-loop-less (chain-calls t) (chain-at t) chain.Post chain-Inv-loop chain-μ-loop
 chain-loop-less t c =
     let k = c .before .before .before .before in
-    let i = k .before .before .before .before in
+    let i = k .before .before .before .before .before in
     let p = i .before .before .before .before .pre in
     omega (arith, i .loop-test .taken)
 
 chain-loop-again : (t : ℕ) → chain-lts.Need-loop-again (chain-calls t) (chain-at t) chain.Post chain-Inv-loop chain-μ-loop
 chain-loop-again t c =
     let k = c .before .before .before .before in
-    let i = k .before .before .before .before in
+    let i = k .before .before .before .before .before in
     let p = i .before .before .before .before .pre in
     run-more series _ _ _ _ _ _ (p .1 .1) _ _ _ _ (i .before .loop .inv) _ _ (k .chain-child .ensures) (i .loop-test .taken)
     (not-false _ (c .before .before .if1 .left)) _ _ (c .chained .ensures .0) (c .chained .ensures .1)
@@ -209,13 +209,13 @@ chain-child-node-at-requires : (t : ℕ) → chain-child-lts.Need-node-at-requir
 chain-child-node-at-requires t c κs = let p = c .before .before .pre .1 in (omega (arith, c .place .ensures, node-place p), p .short)
 
 chain-child-leaf-requires : (t : ℕ) → chain-child-lts.Need-leaf-requires (chain-child-calls t) (chain-child-at t) chain-child.Post
-chain-child-leaf-requires t c κs = c .before .before .before .before .before .before .before .pre .1 .few
+chain-child-leaf-requires t c κs = c .before .before .before .before .before .before .before .before .pre .1 .few
 
 chain-child-returns : (t : ℕ) → chain-child-lts.Need-returns (chain-child-calls t) (chain-child-at t) chain-child.Post
 chain-child-returns t c =
-    let n = c .before .before .before .before .before in
+    let n = c .before .before .before .before .before .before in
     let p = n .before .before .before .pre .1 in
-    child-leaf series _ _ _ _ _ (p .few) _ (chain-child-node t n) _ _ _ _ _ _ (p .opened) (c .before .before .before .if1 .taken) (c .leaf .ensures)
+    child-leaf series _ _ _ _ _ (p .few) _ (chain-child-node t n) _ _ _ _ _ _ _ _ p (c .before .before .before .before .if1 .taken) (c .leaf .ensures)
 
 chain-child-refused-requires : (t : ℕ) → chain-child-lts.Need-refused-requires (chain-child-calls t) (chain-child-at t) chain-child.Post
 chain-child-refused-requires t c κs = search needs
@@ -225,7 +225,7 @@ unfolding kindBit
 chain-child-returns-2 t c =
     let n = c .before .before .before .before .before in
     let p = n .before .before .before .pre .1 in
-    child-none series _ _ _ _ _ (p .few) _ (chain-child-node t n) _ _ _ _ _ _ _
+    child-none series _ _ _ _ _ (p .few) _ (chain-child-node t n) _ _ _ _ _ _ _ _ _
     (c .before .before .before .if1 .left) (c .before .if2 .taken) (c .refused .ensures)
 
 chain-child-add-if3 : (t : ℕ) → chain-child-lts.Need-add-if3 (chain-child-calls t) (chain-child-at t) chain-child.Post
@@ -241,7 +241,8 @@ unfolding kindBit
 chain-child-returns-3 t c =
     let n = c .before .before .before .before .before .before in
     let p = n .before .before .before .pre .1 in
-    child-full series _ _ _ _ _ (p .few) _ (chain-child-node t n) _ _ _ _ _ _ _ (c .before .before .if2 .left) (c .before .if3 .taken) (c .refused2 .ensures)
+    child-full series _ _ _ _ _ (p .few) _ (chain-child-node t n) _ _ _ _ _ _ _ _ _
+    (c .before .before .if2 .left) (c .before .if3 .taken) (c .refused2 .ensures)
 
 chain-child-add-side : (t : ℕ) → chain-child-lts.Need-add-side (chain-child-calls t) (chain-child-at t) chain-child.Post
 chain-child-add-side t c =
@@ -251,26 +252,26 @@ chain-child-add-side t c =
 chain-child-side-requires : (t : ℕ) → chain-child-lts.Need-side-requires (chain-child-calls t) (chain-child-at t) chain-child.Post
 unfolding kindBit
 chain-child-side-requires t c κs =
-    let n = c .before .before .before .before .before .before .before .before in
+    let n = c .before .before .before .before .before .before .before .before .before in
     let p = n .before .before .before .pre .1 in
-    call-children parallel _ _ (chain-child-node t n) (c .before .before .before .before .if2 .left) p
-    (omega (arith, c .before .before .before .if3 .left)) (n .before .before .before .pre .0)
+    call-children parallel _ _ (chain-child-node t n) (c .before .before .before .before .before .if2 .left) p
+    (omega (arith, c .before .before .before .before .if3 .left)) (n .before .before .before .pre .0)
 
 chain-child-returns-4 : (t : ℕ) → chain-child-lts.Need-returns-4 (chain-child-calls t) (chain-child-at t) chain-child.Post
 unfolding kindBit
 chain-child-returns-4 t c =
-    let n = c .before .before .before .before .before .before .before .before .before in
+    let n = c .before .before .before .before .before .before .before .before .before .before in
     let p = n .before .before .before .pre .1 in
-    child-group series _ _ _ _ _ (p .few) _ (chain-child-node t n) _ _ _ _ _ _ _
-    (c .before .before .before .before .before .if2 .left) _ (c .side .ensures) (above-all _)
+    child-group series _ _ _ _ _ (p .few) _ (chain-child-node t n) _ _ _ _ _ _ _ _ _
+    (c .before .before .before .before .before .before .if2 .left) _ (c .side .ensures) (above-all _)
 
 abbrev side-Inv-loop : side-lts.InvT-loop
-side-Inv-loop bytes count more done groups seen₀ forward₀ next₀ part₀ floor₀ left₀ seen forward next part floor left =
-    Run parallel bytes count more done groups (record { seen = seen₀; forward = forward₀; next = next₀ }) left floor
-    (record { seen = seen; forward = forward; next = next }) part
+side-Inv-loop bytes count more done groups seen₀ forward₀ next₀ hours₀ part₀ floor₀ left₀ seen forward next hours part floor left =
+    Run parallel bytes count more done groups (record { seen = seen₀; forward = forward₀; next = next₀; hours = hours₀ }) left floor
+    (record { seen = seen; forward = forward; next = next; hours = hours }) part
 
 abbrev side-μ-loop : side-lts.MeasureT-loop
-side-μ-loop bytes count more done groups seen₀ forward₀ next₀ part₀ floor₀ left₀ seen forward next part floor left = left
+side-μ-loop bytes count more done groups seen₀ forward₀ next₀ hours₀ part₀ floor₀ left₀ seen forward next hours part floor left = left
 
 side-unread-requires : (t : ℕ) → side-lts.Need-unread-requires (side-calls t) (side-at t) side.Post side-Inv-loop side-μ-loop
 side-unread-requires t c κs = tt
@@ -283,48 +284,48 @@ side-loop-holds t c = run-begin parallel _ _ _ _ _ _ (c .before .before .pre .1 
 
 side-side-child-requires : (t : ℕ) → side-lts.Need-side-child-requires (side-calls t) (side-at t) side.Post side-Inv-loop side-μ-loop
 side-side-child-requires t c κs =
-    let l = c .before .before .before .before in
+    let l = c .before .before .before .before .before in
     call-child parallel _ (l .loop .inv) (l .before .before .before .pre .0)
 
 side-returns : (t : ℕ) → side-lts.Need-returns (side-calls t) (side-at t) side.Post side-Inv-loop side-μ-loop
 side-returns t c =
     let k = c .before .before in
-    let i = k .before .before .before .before in
+    let i = k .before .before .before .before .before in
     let p = i .before .before .before .before .pre in
     run-none parallel _ _ _ _ _ _ (p .1 .1) _ _ _ _ (i .before .loop .inv) _ _ (k .side-child .ensures) (i .loop-test .taken) (not-true _ (c .if1 .taken))
 
 side-add-floor : (t : ℕ) → side-lts.Need-add-floor (side-calls t) (side-at t) side.Post side-Inv-loop side-μ-loop
 side-add-floor t c =
     let k = c .before .before .before in
-    let i = k .before .before .before .before in
+    let i = k .before .before .before .before .before in
     let p = i .before .before .before .before .pre in
     omega (arith, child-bounded parallel (p .1 .1 .few) (k .side-child .ensures) (not-false _ (c .before .if1 .left)) .smallest)
 
 side-sided-requires : (t : ℕ) → side-lts.Need-sided-requires (side-calls t) (side-at t) side.Post side-Inv-loop side-μ-loop
 side-sided-requires t c κs =
     let k = c .before .before .before .before in
-    let i = k .before .before .before .before in
+    let i = k .before .before .before .before .before in
     let p = i .before .before .before .before .pre in
     child-bounded parallel (p .1 .1 .few) (k .side-child .ensures) (not-false _ (c .before .before .if1 .left)) .lasts
 
 side-sub-left : (t : ℕ) → side-lts.Need-sub-left (side-calls t) (side-at t) side.Post side-Inv-loop side-μ-loop
 side-sub-left t c =
     let k = c .before .before .before .before .before in
-    let i = k .before .before .before .before in
+    let i = k .before .before .before .before .before in
     let p = i .before .before .before .before .pre in
     omega (arith, i .loop-test .taken)
 
 side-loop-less : (t : ℕ) → side-lts.Need-loop-less (side-calls t) (side-at t) side.Post side-Inv-loop side-μ-loop
 side-loop-less t c =
     let k = c .before .before .before .before .before in
-    let i = k .before .before .before .before in
+    let i = k .before .before .before .before .before in
     let p = i .before .before .before .before .pre in
     omega (arith, i .loop-test .taken)
 
 side-loop-again : (t : ℕ) → side-lts.Need-loop-again (side-calls t) (side-at t) side.Post side-Inv-loop side-μ-loop
 side-loop-again t c =
     let k = c .before .before .before .before .before in
-    let i = k .before .before .before .before in
+    let i = k .before .before .before .before .before in
     let p = i .before .before .before .before .pre in
     run-more parallel _ _ _ _ _ _ (p .1 .1) _ _ _ _ (i .before .loop .inv) _ _ (k .side-child .ensures) (i .loop-test .taken)
     (not-false _ (c .before .before .before .if1 .left)) _ _ (c .sided .ensures .0) (c .sided .ensures .1)
@@ -349,13 +350,13 @@ side-child-node-at-requires : (t : ℕ) → side-child-lts.Need-node-at-requires
 side-child-node-at-requires t c κs = let p = c .before .before .pre .1 in (omega (arith, c .place .ensures, node-place p), p .short)
 
 side-child-leaf-requires : (t : ℕ) → side-child-lts.Need-leaf-requires (side-child-calls t) (side-child-at t) side-child.Post
-side-child-leaf-requires t c κs = c .before .before .before .before .before .before .before .pre .1 .few
+side-child-leaf-requires t c κs = c .before .before .before .before .before .before .before .before .pre .1 .few
 
 side-child-returns : (t : ℕ) → side-child-lts.Need-returns (side-child-calls t) (side-child-at t) side-child.Post
 side-child-returns t c =
-    let n = c .before .before .before .before .before in
+    let n = c .before .before .before .before .before .before in
     let p = n .before .before .before .pre .1 in
-    child-leaf parallel _ _ _ _ _ (p .few) _ (side-child-node t n) _ _ _ _ _ _ (p .opened) (c .before .before .before .if1 .taken) (c .leaf .ensures)
+    child-leaf parallel _ _ _ _ _ (p .few) _ (side-child-node t n) _ _ _ _ _ _ _ _ p (c .before .before .before .before .if1 .taken) (c .leaf .ensures)
 
 side-child-refused-requires : (t : ℕ) → side-child-lts.Need-refused-requires (side-child-calls t) (side-child-at t) side-child.Post
 side-child-refused-requires t c κs = search needs
@@ -365,7 +366,7 @@ unfolding kindBit
 side-child-returns-2 t c =
     let n = c .before .before .before .before .before in
     let p = n .before .before .before .pre .1 in
-    child-none parallel _ _ _ _ _ (p .few) _ (side-child-node t n) _ _ _ _ _ _ _
+    child-none parallel _ _ _ _ _ (p .few) _ (side-child-node t n) _ _ _ _ _ _ _ _ _
     (c .before .before .before .if1 .left) (c .before .if2 .taken) (c .refused .ensures)
 
 side-child-add-if3 : (t : ℕ) → side-child-lts.Need-add-if3 (side-child-calls t) (side-child-at t) side-child.Post
@@ -381,7 +382,8 @@ unfolding kindBit
 side-child-returns-3 t c =
     let n = c .before .before .before .before .before .before in
     let p = n .before .before .before .pre .1 in
-    child-full parallel _ _ _ _ _ (p .few) _ (side-child-node t n) _ _ _ _ _ _ _ (c .before .before .if2 .left) (c .before .if3 .taken) (c .refused2 .ensures)
+    child-full parallel _ _ _ _ _ (p .few) _ (side-child-node t n) _ _ _ _ _ _ _ _ _
+    (c .before .before .if2 .left) (c .before .if3 .taken) (c .refused2 .ensures)
 
 side-child-add-chain : (t : ℕ) → side-child-lts.Need-add-chain (side-child-calls t) (side-child-at t) side-child.Post
 side-child-add-chain t c =
@@ -391,10 +393,10 @@ side-child-add-chain t c =
 side-child-chain-requires : (t : ℕ) → side-child-lts.Need-chain-requires (side-child-calls t) (side-child-at t) side-child.Post
 unfolding kindBit
 side-child-chain-requires t c κs =
-    let n = c .before .before .before .before .before .before .before .before in
+    let n = c .before .before .before .before .before .before .before .before .before in
     let p = n .before .before .before .pre .1 in
-    call-children series _ _ (side-child-node t n) (c .before .before .before .before .if2 .left) p
-    (omega (arith, c .before .before .before .if3 .left)) (n .before .before .before .pre .0)
+    call-children series _ _ (side-child-node t n) (c .before .before .before .before .before .if2 .left) p
+    (omega (arith, c .before .before .before .before .if3 .left)) (n .before .before .before .pre .0)
 
 side-child-above-requires : (t : ℕ) → side-child-lts.Need-above-requires (side-child-calls t) (side-child-at t) side-child.Post
 side-child-above-requires t c κs = search needs
@@ -402,10 +404,10 @@ side-child-above-requires t c κs = search needs
 side-child-returns-4 : (t : ℕ) → side-child-lts.Need-returns-4 (side-child-calls t) (side-child-at t) side-child.Post
 unfolding kindBit
 side-child-returns-4 t c =
-    let n = c .before .before .before .before .before .before .before .before .before .before in
+    let n = c .before .before .before .before .before .before .before .before .before .before .before in
     let p = n .before .before .before .pre .1 in
-    child-group parallel _ _ _ _ _ (p .few) _ (side-child-node t n) _ _ _ _ _ _ _
-    (c .before .before .before .before .before .before .if2 .left) _ (c .before .chain .ensures) (c .above .ensures)
+    child-group parallel _ _ _ _ _ (p .few) _ (side-child-node t n) _ _ _ _ _ _ _ _ _
+    (c .before .before .before .before .before .before .before .if2 .left) _ (c .before .chain .ensures) (c .above .ensures)
 
 pub +chain+chain-child+side+side-child-spec : {M : Type 1} → statement M
 +chain+chain-child+side+side-child-spec =

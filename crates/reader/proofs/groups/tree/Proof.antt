@@ -1,10 +1,12 @@
 -- `groups::tree` meets its contract: a chain is a child of a side group, any other tree the only child of a chain.
+use mathlib.Core.Path.{refl}
 use native.Mathlib.Omega.{arith}
 use borrow.Author.Needs.{needs}
-use Rattle.poset.specs.Tree.{parallel}
+use Rattle.poset.specs.Tree.{series, parallel}
 use Rattle.record.specs.Layout.{kindBit}
 use Rattle.reader.proofs.Refusals.{above-all}
 use Rattle.reader.proofs.Child.{child-group, tree-child, tree-chain, tree-full}
+use Rattle.reader.proofs.Calls.{call-children}
 use Rattle.reader.proofs.groups.tree.Statement.{statement}
 use Rattle.reader.proofs.groups.tree.Tie as tie
 
@@ -16,9 +18,9 @@ chain-requires c κs = search needs
 
 returns : tie.Need-returns
 returns c =
-    let n = c .before .before .before .before .before .before in
+    let n = c .before .before .before .before .before .before .before in
     let p = n .before .before .pre in
-    tree-child _ _ _ _ _ (p .few) _ (n .node-at .ensures) _ _ _ (c .before .before .before .before .if1 .taken) (c .chain .ensures)
+    tree-child _ _ _ _ _ (p .few) _ (n .node-at .ensures) _ _ _ (c .before .before .before .before .before .if1 .taken) (c .chain .ensures)
 
 refused-requires : tie.Need-refused-requires
 refused-requires c κs = search needs
@@ -30,16 +32,21 @@ returns-2 c =
     tree-full _ _ _ _ _ (p .few) _ (n .node-at .ensures) _ _ _ (c .before .before .if1 .left) (omega (arith, c .before .if2 .taken)) (c .refused .ensures)
 
 chain-requires-2 : tie.Need-chain-requires-2
-chain-requires-2 c κs = search needs
+unfolding kindBit
+chain-requires-2 c κs =
+    let n = c .before .before .before .before .before .before .before in
+    let p = n .before .before .pre in
+    let two = c .before .before .before .before .if2 .left in
+    call-children series _ _ (n .node-at .ensures) (c .before .before .before .before .before .if1 .left) p (omega (arith, p .opened, two)) refl .1
 
 returns-3 : tie.Need-returns-3
 unfolding kindBit
 returns-3 c =
-    let n = c .before .before .before .before .before .before .before in
+    let n = c .before .before .before .before .before .before .before .before in
     let p = n .before .before .pre in
-    let kind = c .before .before .before .before .before .if1 .left in
+    let kind = c .before .before .before .before .before .before .if1 .left in
     tree-chain _ _ _ _ _ (p .few) _ (n .node-at .ensures) _ _ _ kind
-    (child-group parallel _ _ _ _ _ (p .few) _ (n .node-at .ensures) _ _ _ _ _ _ _ kind _ (c .chain2 .ensures) (above-all _))
+    (child-group parallel _ _ _ _ _ (p .few) _ (n .node-at .ensures) _ _ _ _ _ _ _ _ _ kind _ (c .chain2 .ensures) (above-all _))
 
 pub tree-spec : {M : Type 1} → statement M
 tree-spec =

@@ -1,9 +1,9 @@
 -- `parts::leaf` meets its contract: each refusal is a test of it, and the leaf that passes all is written.
 use mathlib.Core.Path.{refl}
 use native.Mathlib.Omega.{arith}
-use borrow.Author.Needs.{needs}
 use Rattle.poset.proofs.Laws.{clash}
 use Rattle.reader.proofs.Refusals.{refused-leaf}
+use borrow.Author.Needs.{needs}
 use Rattle.reader.proofs.parts.leaf.Statement.{statement}
 use Rattle.reader.proofs.parts.leaf.Tie as tie
 
@@ -25,6 +25,9 @@ refused-requires-3 c κs = search needs
 returns-3 : tie.Need-returns-3
 returns-3 c = refused-leaf (c .refused3 .ensures) (λ inside above unseen room. omega (arith, c .before .if3 .taken))
 
+cast-mark : tie.Need-cast-mark
+cast-mark c = search needs
+
 element-copy-out-if4 : tie.Need-element-copy-out-if4
 element-copy-out-if4 c = search needs
 
@@ -40,15 +43,21 @@ element-write-seen c = search needs
 element-write-forward : tie.Need-element-write-forward
 element-write-forward c = search needs
 
-add-t13 : tie.Need-add-t13
-add-t13 c = search needs
+mul-hours : tie.Need-mul-hours
+mul-hours c = search needs
+
+element-write-hours : tie.Need-element-write-hours
+element-write-hours c = search needs
+
+add-t15 : tie.Need-add-t15
+add-t15 c = search needs
 
 returns-5 : tie.Need-returns-5
 returns-5 c =
     record {
       some = λ _.
           let e = c .before .before in
-          (e .before .before .if1 .left, e .before .if2 .left, c .if4 .left, e .if3 .left, refl, refl, refl);
+          (e .before .before .if1 .left, e .before .if2 .left, c .if4 .left, e .if3 .left, refl, refl, refl, refl);
       none = λ e. absurd (clash refl e);
     }
 
@@ -62,10 +71,13 @@ leaf-spec =
     returns-2
     refused-requires-3
     returns-3
+    cast-mark
     element-copy-out-if4
     refused-requires-4
     returns-4
     element-write-seen
     element-write-forward
-    add-t13
+    mul-hours
+    element-write-hours
+    add-t15
     returns-5)
