@@ -1,21 +1,21 @@
--- What one field more does to packed bits.
-use Prim.Native.Nat.{ℕ, suc, _+_, _*_, _-_, _/_, _%_, _^_, _≤_, _<_}
+-- What some bits more do to packed bits.
+use Prim.Native.Nat.{ℕ, _+_, _*_, _-_, _/_, _%_, _^_, _≤_, _<_}
 use mathlib.Core.Path.{_≡_, refl, sym, ap, ap₂, subst, _∙_}
 use mathlib.Core.List.{List, [], _∷_, _++_, append-assoc, append-nil}
-use native.Mathlib.Nat.{mod-lt, mod-eq-of-lt, add-comm, add-zero, one-mul}
-use native.Mathlib.Numerals.{add-one}
+use native.Mathlib.Nat.{mod-lt, mod-eq-of-lt, add-zero, one-mul}
 use native.Mathlib.Omega.{arith}
-use lib.ListN.{length, take, drop, set, replicate, length-set}
+use lib.Arith.{digits-lt}
+use lib.Dec.{ltb}
+use lib.ListN.{length, take, drop, set, replicate, length-set, length-append}
 use lib.Pow.{pow-pos, pow-mono, pow-add, shl-lt, shr-lt, split, shl-exact}
-use Rattle.record.specs.Bits.{bits, bitsOf, bytesOf}
-use Rattle.record.proofs.Fields.{bits-append, bits-snoc, bits-below}
+use Rattle.poset.proofs.Laws.{lt-true, ltb-true, false-unless}
+use Rattle.record.specs.Bits.{AllBelow, bits, bitsOf, bytesOf}
+use Rattle.record.specs.Layout.{hoursBits, leafBits, hoursOf, recordRoom}
+use Rattle.record.proofs.Fields.{length-bits, bits-append, bits-below, bit-alone}
 use Rattle.record.proofs.Bytes.{Filled, bits-zero, bitsOf-below, bytes-filled, filled-unique}
 use Rattle.record.proofs.Below.{below-nil, below-cons, below-append}
 use Rattle.writer.specs.declared.pack.Packing.{Packing}
-use lib.Dec.{ltb}
-use Rattle.poset.proofs.Laws.{lt-true, ltb-true, false-unless}
-use Rattle.record.specs.Bits.{AllBelow}
-use Rattle.writer.specs.Packing.{Holds, Ends, fieldBits}
+use Rattle.writer.specs.Packing.{Ready, Holds, Puts, Ends, fieldBits}
 use Rattle.writer.proofs.Stores.{stored, blank-next, whole-list}
 
 pub bitsOf-append : (xs ys : List ℕ) → bitsOf (xs ++ ys) ≡ bitsOf xs ++ bitsOf ys
@@ -27,32 +27,8 @@ bitsOf-one : (b : ℕ) → bitsOf (b ∷ []) ≡ bits 8 b
 unfolding bitsOf
 bitsOf-one b = append-nil (bits 8 b)
 
--- fewer than 8 bits in hand are worth less than 128
-pub few-small : {have value : ℕ} → have < 8 → value < 2 ^ have → value < 128
-few-small h v = omega (arith, pow-mono h)
-
-pub one-shifted : {have : ℕ} → have < 8 → 1 * 2 ^ have % 2 ^ 64 ≡ 2 ^ have
-one-shifted {have} h = shl-exact {a = 1} 1 have 64 (omega arith) (omega arith) ∙ one-mul (2 ^ have)
-
-module _ (have value field : ℕ) (few : have < 8) (small : value < 2 ^ have) (byte : field < 256) where
-  whole-small : value * 256 + field < 2 ^ (8 + have)
-  whole-small =
-      let e : 2 ^ (8 + have) ≡ 256 * 2 ^ have = pow-add 2 8 have in
-      omega (arith, e)
-
-  -- the bits in hand and eight more are a byte and as many bits in hand
-  byte-more : bits have value ++ bits 8 field ≡ bits 8 ((value * 256 + field) / 2 ^ have % 256) ++ bits have ((value * 256 + field) % 2 ^ have)
-  byte-more =
-      let whole = value * 256 + field in
-      let high : whole / 2 ^ have % 256 ≡ whole / 2 ^ have = mod-eq-of-lt (shr-lt 8 have whole-small) in
-      sym (bits-append have 8 value field byte)
-      ∙ ap (λ k. bits k whole) (add-comm have 8)
-      ∙ ap (bits (8 + have)) (sym (split whole have))
-      ∙ bits-append 8 have (whole / 2 ^ have) (whole % 2 ^ have) (mod-lt whole (pow-pos have))
-      ∙ ap (λ b. bits 8 b ++ bits have (whole % 2 ^ have)) (sym high)
-
 -- a byte is stored after the whole bytes
-pub bits-stored : (bytes : List ℕ) (at b : ℕ) → at < length bytes → bitsOf (take (at + 1) (set bytes at b)) ≡ bitsOf (take at bytes) ++ bits 8 b
+bits-stored : (bytes : List ℕ) (at b : ℕ) → at < length bytes → bitsOf (take (at + 1) (set bytes at b)) ≡ bitsOf (take at bytes) ++ bits 8 b
 bits-stored bytes at b h =
     ap bitsOf (stored bytes at b h)
     ∙ bitsOf-append (take at bytes) (b ∷ [])
@@ -62,93 +38,162 @@ stored-low : (bytes : List ℕ) (at b : ℕ) → at < length bytes → b < 256 �
 stored-low bytes at b h small low =
     subst (AllBelow 256) (sym (stored bytes at b h)) (below-append low (below-cons small below-nil))
 
-pub put-byte : (bs bytes : List ℕ) (at have value field : ℕ) → have < 8 → value < 2 ^ have → field < 256 → at < length bytes
-    → bs ≡ bitsOf (take at bytes) ++ bits have value
-    → bs ++ bits 8 field
-    ≡ bitsOf (take (at + 1) (set bytes at ((value * 256 + field) / 2 ^ have % 256))) ++ bits have ((value * 256 + field) % 2 ^ have)
-put-byte bs bytes at have value field few small byte room e =
-    let whole = value * 256 + field in
-    ap (λ l. l ++ bits 8 field) e
-    ∙ append-assoc (bitsOf (take at bytes)) (bits have value) (bits 8 field)
-    ∙ ap (λ l. bitsOf (take at bytes) ++ l) (byte-more have value field few small byte)
-    ∙ sym (append-assoc (bitsOf (take at bytes)) (bits 8 (whole / 2 ^ have % 256)) (bits have (whole % 2 ^ have)))
-    ∙ ap (λ l. l ++ bits have (whole % 2 ^ have)) (sym (bits-stored bytes at (whole / 2 ^ have % 256) room))
+pub one-shifted : {have : ℕ} → have < 8 → 1 * 2 ^ have % 2 ^ 64 ≡ 2 ^ have
+one-shifted {have} h = shl-exact {a = 1} 1 have 64 (omega arith) (omega arith) ∙ one-mul (2 ^ have)
 
--- the same of what a packing holds
-pub holds-byte : (bs bytes : List ℕ) (p : Packing) (field : ℕ) → field < 256 → p .at < 272 → Holds bs bytes p
-    → Holds (bs ++ bits 8 field)
-    (set bytes (p .at) ((p .value * 256 + field) / 2 ^ p .have % 256))
-    (record { at = p .at + 1; have = p .have; value = (p .value * 256 + field) % (1 * 2 ^ p .have % 2 ^ 64) })
-holds-byte bs bytes p field byte room h =
-    let whole = p .value * 256 + field in
-    let e : whole % 2 ^ p .have ≡ whole % (1 * 2 ^ p .have % 2 ^ 64) = ap (λ m. whole % m) (sym (one-shifted (h .few))) in
+-- the bits in hand and a field after them
+module _ (have value width field : ℕ) (small : value < 2 ^ have) (fits : field < 2 ^ width) where
+  abbrev joined : ℕ
+  joined = value * 2 ^ width + field
+
+  pub joined-small : joined < 2 ^ (have + width)
+  joined-small = subst (λ m. joined < m) (sym (pow-add 2 have width)) (digits-lt small fits)
+
+  joined-bits : bits have value ++ bits width field ≡ bits (have + width) joined
+  joined-bits = sym (bits-append have width value field fits)
+
+  -- where they complete a byte
+  module _ (rest : ℕ) (e : have + width ≡ 8 + rest) where
+    high-small : joined / 2 ^ rest < 256
+    high-small = shr-lt 8 rest (subst (λ k. joined < 2 ^ k) e joined-small)
+
+    byte-bits : bits have value ++ bits width field ≡ bits 8 (joined / 2 ^ rest % 256) ++ bits rest (joined % 2 ^ rest)
+    byte-bits =
+        joined-bits
+        ∙ ap₂ bits e (sym (split joined rest))
+        ∙ bits-append 8 rest (joined / 2 ^ rest) (joined % 2 ^ rest) (mod-lt joined (pow-pos rest))
+        ∙ ap (λ b. bits 8 b ++ bits rest (joined % 2 ^ rest)) (sym (mod-eq-of-lt high-small))
+
+-- a field of at most 8 bits more
+module _ (bytes : List ℕ) (p : Packing) (width field : ℕ) (ready : Ready p width) (narrow : width ≤ 8) (fits : field < 2 ^ width) where
+  abbrev value : ℕ
+  value = p .value * 2 ^ width % 2 ^ 64 + field
+
+  -- nothing is shifted out
+  is : value ≡ joined (p .have) (p .value) width field (ready .small) fits
+  is = ap (λ v. v + field) (shl-exact (p .have) width 64 (ready .small) (omega (arith, ready .few)))
+
+  value-small : value < 2 ^ (p .have + width)
+  value-small = subst (λ v. v < 2 ^ (p .have + width)) (sym is) (joined-small (p .have) (p .value) width field (ready .small) fits)
+
+  pub value-fits : value < 2 ^ 64
+  value-fits = omega (arith, value-small, pow-mono {i = p .have + width} {j = 16} (omega (arith, ready .few)))
+
+  abbrev whole : List ℕ
+  whole = bitsOf (take (p .at) bytes)
+
+  more-held : (bs : List ℕ) → Holds bs bytes p → bs ++ bits width field ≡ whole ++ (bits (p .have) (p .value) ++ bits width field)
+  more-held bs h = ap (λ l. l ++ bits width field) (h .these) ∙ append-assoc whole (bits (p .have) (p .value)) (bits width field)
+
+  -- it stays in hand
+  pub puts-more : p .have + width < 8 → Puts (bits width field) bytes p bytes (record { at = p .at; have = p .have + width; value = value })
+  puts-more few =
+      record {
+        held = λ bs h. record {
+          size = h .size;
+          whole = h .whole;
+          few = few;
+          small = value-small;
+          low = h .low;
+          blank = h .blank;
+          these =
+              more-held bs h
+              ∙ ap (λ l. whole ++ l) (joined-bits (p .have) (p .value) width field (ready .small) fits)
+              ∙ ap (λ v. whole ++ bits (p .have + width) v) (sym is);
+        };
+        left = λ more r. record { room = omega (arith, r .room, length-bits width field); few = few; small = value-small };
+      }
+
+  -- it completes a byte
+  module _ (many : 8 ≤ p .have + width) where
+    abbrev rest : ℕ
+    rest = p .have + width - 8
+
+    abbrev byte : ℕ
+    byte = value / 2 ^ rest % 256
+
+    abbrev low : ℕ
+    low = value % (1 * 2 ^ rest % 2 ^ 64)
+
+    pub power : 1 * 2 ^ rest % 2 ^ 64 ≡ 2 ^ rest
+    power = one-shifted (omega (arith, ready .few))
+
+    low-small : low < 2 ^ rest
+    low-small = rw power (mod-lt value (pow-pos rest))
+
+    spelt : bits (p .have) (p .value) ++ bits width field ≡ bits 8 byte ++ bits rest low
+    spelt =
+        byte-bits (p .have) (p .value) width field (ready .small) fits rest (omega arith)
+        ∙ ap₂ (λ v k. bits 8 (v / 2 ^ rest % 256) ++ bits rest (v % k)) (sym is) (sym power)
+
+    room-for-byte : p .at < recordRoom
+    room-for-byte = omega (arith, ready .room)
+
+    pub puts-byte : Puts (bits width field) bytes p (set bytes (p .at) byte) (record { at = p .at + 1; have = rest; value = low })
+    puts-byte =
+        record {
+          held = λ bs h.
+              let inside : p .at < length bytes = omega (arith, h .size, room-for-byte) in
+              record {
+                size = length-set bytes (p .at) byte ∙ h .size;
+                whole = omega (arith, room-for-byte);
+                few = omega (arith, ready .few);
+                small = low-small;
+                low = stored-low bytes (p .at) byte inside (mod-lt (value / 2 ^ rest) (omega arith)) (h .low);
+                blank = blank-next bytes (p .at) byte recordRoom room-for-byte (h .blank);
+                these =
+                    more-held bs h
+                    ∙ ap (λ l. whole ++ l) spelt
+                    ∙ sym (append-assoc whole (bits 8 byte) (bits rest low))
+                    ∙ ap (λ l. l ++ bits rest low) (sym (bits-stored bytes (p .at) byte inside));
+              };
+          left = λ more r. record { room = omega (arith, r .room, length-bits width field); few = omega (arith, ready .few); small = low-small };
+        }
+
+-- room for fewer bits
+pub less : (p : Packing) {k more : ℕ} → Ready p k → more ≤ k → Ready p more
+less p h l = record { room = omega (arith, h .room); few = h .few; small = h .small }
+
+-- bits and then others
+pub puts-both : {xs ys bytes bytes′ bytes″ : List ℕ} {p q r : Packing} → Puts xs bytes p bytes′ q → Puts ys bytes′ q bytes″ r → Puts (xs ++ ys) bytes p bytes″ r
+puts-both {xs} {ys} {bytes″ = bytes″} {p = p} {r = r} one two =
     record {
-      size = length-set bytes (p .at) (whole / 2 ^ p .have % 256) ∙ h .size;
-      whole = omega arith;
-      few = h .few;
-      small = rw (← e) (mod-lt whole (pow-pos (p .have)));
-      low = stored-low bytes (p .at) _ (omega (arith, h .size)) (mod-lt (whole / 2 ^ p .have) (omega arith)) (h .low);
-      blank = blank-next bytes (p .at) _ 272 room (h .blank);
-      these =
-          put-byte bs bytes (p .at) (p .have) (p .value) field (h .few) (h .small) byte (omega arith) (h .these)
-          ∙ ap
-          (λ v. bitsOf (take (p .at + 1) (set bytes (p .at) (whole / 2 ^ p .have % 256))) ++ bits (p .have) v)
-          e;
+      held = λ bs h. subst (λ l. Holds l bytes″ r) (append-assoc bs xs ys) (two .held (bs ++ xs) (one .held bs h));
+      left = λ more h. two .left more (one .left (length ys + more) (less p h (omega (arith, length-append xs ys))));
     }
 
--- one bit more: it completes a byte, or stays in hand
-pub holds-full : (bs bytes : List ℕ) (p : Packing) → p .at < 272 → p .have ≡ 7 → Holds bs bytes p
-    → Holds (bs ++ 1 ∷ []) (set bytes (p .at) ((p .value * 2 + 1) % 256)) (record { at = p .at + 1; have = 0; value = 0 })
-unfolding bits
-holds-full bs bytes p room e h =
-    let value = p .value * 2 + 1 in
-    let few : p .value < 2 ^ 7 = subst (λ k. p .value < 2 ^ k) e (h .small) in
-    let low : value % 256 ≡ value = mod-eq-of-lt (omega arith) in
-    record {
-      size = length-set bytes (p .at) (value % 256) ∙ h .size;
-      whole = omega arith;
-      few = omega arith;
-      small = omega arith;
-      low = stored-low bytes (p .at) _ (omega (arith, h .size)) (mod-lt value (omega arith)) (h .low);
-      blank = blank-next bytes (p .at) _ 272 room (h .blank);
-      these =
-          ap (λ l. l ++ 1 ∷ []) (h .these ∙ ap (λ k. bitsOf (take (p .at) bytes) ++ bits k (p .value)) e)
-          ∙ append-assoc (bitsOf (take (p .at) bytes)) (bits 7 (p .value)) (1 ∷ [])
-          ∙ ap (λ l. bitsOf (take (p .at) bytes) ++ l) (sym (bits-snoc 7 (p .value) 1 (omega arith)))
-          ∙ ap (λ v. bitsOf (take (p .at) bytes) ++ bits 8 v) (sym low)
-          ∙ sym (bits-stored bytes (p .at) (value % 256) (omega (arith, h .size)))
-          ∙ sym (append-nil (bitsOf (take (p .at + 1) (set bytes (p .at) (value % 256)))));
-    }
+-- the room left after so many bits
+pub room-left : {bytes bytes′ : List ℕ} {p q : Packing} (width field more : ℕ) → Puts (bits width field) bytes p bytes′ q → Ready p (width + more) → Ready q more
+room-left {p = p} width field more h r = h .left more (less p r (omega (arith, length-bits width field)))
 
-pub more-small : (have value : ℕ) → value < 2 ^ have → value * 2 + 1 < 2 ^ (have + 1)
-more-small have value h = subst (λ k. value * 2 + 1 < 2 ^ k) (sym (add-one have)) (omega arith)
+-- hours are a byte and four bits
+pub hours-bits : (h : ℕ) → h < 2 ^ hoursBits → bits 8 (h / 16) ++ bits 4 (h % 16) ≡ bits hoursBits h
+hours-bits h l = sym (bits-append 8 4 (h / 16) (h % 16) (omega arith)) ∙ ap (bits hoursBits) (split h 4)
 
-pub holds-more : (bs bytes : List ℕ) (p : Packing) → (p .have ≡ 7 → ⊥) → Holds bs bytes p
-    → Holds (bs ++ 1 ∷ []) bytes (record { at = p .at; have = p .have + 1; value = p .value * 2 + 1 })
-holds-more bs bytes p e h =
-    let next : suc (p .have) ≡ p .have + 1 = sym (add-one (p .have)) in
-    record {
-      size = h .size;
-      whole = h .whole;
-      few = omega (arith, h .few);
-      small = more-small (p .have) (p .value) (h .small);
-      low = h .low;
-      blank = h .blank;
-      these =
-          ap (λ l. l ++ 1 ∷ []) (h .these)
-          ∙ append-assoc (bitsOf (take (p .at) bytes)) (bits (p .have) (p .value)) (1 ∷ [])
-          ∙ ap (λ l. bitsOf (take (p .at) bytes) ++ l) (sym (bits-snoc (p .have) (p .value) 1 (omega arith)))
-          ∙ ap (λ k. bitsOf (take (p .at) bytes) ++ bits k (p .value * 2 + 1)) next;
-    }
+-- a field is a leaf and its hours, or a 1 and a byte
+module _ (hours : List ℕ) (x : ℕ) where
+  pub leaf-bits : x < 128 → fieldBits hours x ≡ bits 8 x ++ bits hoursBits (hoursOf hours x)
+  unfolding fieldBits
+  leaf-bits h = rw (lt-true x 128 h, fieldBits)
 
--- a field is a byte, or a 1 and a byte
-pub leaf-bits : (x : ℕ) → x < 256 → fieldBits x ≡ bits 8 x
-unfolding fieldBits
-leaf-bits x h = rw (lt-true x 256 h, fieldBits)
+  pub group-bits : 128 ≤ x → fieldBits hours x ≡ bits 1 1 ++ bits 8 (x % 256)
+  unfolding fieldBits
+  group-bits h =
+      rw (false-unless (ltb x 128) (λ e. omega (arith, ltb-true x 128 e)), fieldBits) (ap (λ l. l ++ bits 8 (x % 256)) (sym (bit-alone 1 (omega arith))))
 
-pub group-bits : (x : ℕ) → 256 ≤ x → fieldBits x ≡ 1 ∷ bits 8 (x - 256)
-unfolding fieldBits
-group-bits x h = rw (false-unless (ltb x 256) (λ e. omega (arith, ltb-true x 256 e)), fieldBits)
+  pub leaf-length : x < 128 → length (fieldBits hours x) ≡ leafBits
+  leaf-length h =
+      omega (
+        arith,
+        ap length (leaf-bits h),
+        length-append (bits 8 x) (bits hoursBits (hoursOf hours x)),
+        length-bits 8 x,
+        length-bits hoursBits (hoursOf hours x),
+      )
+
+  pub group-length : 128 ≤ x → length (fieldBits hours x) ≡ 9
+  group-length h =
+      omega (arith, ap length (group-bits h), length-append (bits 1 1) (bits 8 (x % 256)), length-bits 1 1, length-bits 8 (x % 256))
 
 -- the bits in hand with zeros after them are the last byte
 
@@ -157,10 +202,10 @@ held-below bs bytes p h =
     subst (AllBelow 2) (sym (h .these)) (below-append (bitsOf-below (take (p .at) bytes)) (bits-below (p .have) (p .value)))
 
 -- the whole bytes, filled with zeros
-ends : (bs bytes : List ℕ) (count : ℕ) → length bytes ≡ 272 → count ≤ 272 → Filled bs (take count bytes) → AllBelow 2 bs
-    → drop count bytes ≡ replicate (272 - count) 0 → Ends bs bytes count
+ends : (bs bytes : List ℕ) (count : ℕ) → length bytes ≡ recordRoom → count ≤ recordRoom → Filled bs (take count bytes) → AllBelow 2 bs
+    → drop count bytes ≡ replicate (recordRoom - count) 0 → Ends bs bytes count
 ends bs bytes count size few fill low blank =
-    let (number, these) = whole-list bytes (bytesOf bs) count 272 (omega arith) (filled-unique fill (bytes-filled bs low)) blank in
+    let (number, these) = whole-list bytes (bytesOf bs) count recordRoom (omega arith) (filled-unique fill (bytes-filled bs low)) blank in
     record { number = number; these = these }
 
 pub holds-none : (bs bytes : List ℕ) (p : Packing) → p .have ≡ 0 → Holds bs bytes p → Ends bs bytes (p .at)
@@ -186,7 +231,7 @@ last-byte have value few small =
     let fits : value * 2 ^ free < 256 = subst (λ k. value * 2 ^ free < 2 ^ k) eight (shl-lt have free small) in
     ap (λ x. x % 256) (mod-eq-of-lt {n = value * 2 ^ free} (omega arith)) ∙ mod-eq-of-lt fits
 
-pub holds-last : (bs bytes : List ℕ) (p : Packing) → p .at < 272 → (p .have ≡ 0 → ⊥) → Holds bs bytes p
+pub holds-last : (bs bytes : List ℕ) (p : Packing) → p .at < recordRoom → (p .have ≡ 0 → ⊥) → Holds bs bytes p
     → Ends bs (set bytes (p .at) (p .value * 2 ^ (8 - p .have) % 2 ^ 64 % 256)) (p .at + 1)
 holds-last bs bytes p room e h =
     let b = p .value * 2 ^ (8 - p .have) % 2 ^ 64 % 256 in
@@ -208,4 +253,4 @@ holds-last bs bytes p room e h =
           ∙ ap (λ l. l ++ replicate free 0) (sym (h .these));
       small = stored-low bytes (p .at) b (omega (arith, h .size)) (mod-lt _ (omega arith)) (h .low);
     })
-    (held-below bs bytes p h) (blank-next bytes (p .at) b 272 room (h .blank))
+    (held-below bs bytes p h) (blank-next bytes (p .at) b recordRoom room (h .blank))

@@ -1,22 +1,20 @@
 -- The fields of a tree are its bits.
-use Prim.Native.Nat.{ℕ, _+_, _*_, _-_, _^_, _≤_, _<_}
-use mathlib.Core.Path.{_≡_, refl, sym, ap, ap₂, subst, _∙_}
-use mathlib.Core.List.{List, [], _∷_, _++_, flatMap, append-nil, List·Memᴰ·head}
+use Prim.Native.Nat.{ℕ, _+_, _*_, _-_, _%_, _^_, _≤_, _<_}
+use mathlib.Core.Path.{_≡_, refl, sym, ap, ap₂, _∙_}
+use mathlib.Core.List.{List, _∷_, _++_, flatMap, append-nil, List·Memᴰ·head}
 use mathlib.Core.Bool.{Bool, true, false}
 use mathlib.Core.Option.{Option, none, some}
 use native.Mathlib.Omega.{arith}
-use lib.Dec.{ltb}
 use lib.ListN.{length, take, replicate, length-append, length-replicate}
 use lib.Seq.{take-at}
 use Rattle.poset.specs.Order.{Rel, Strict}
 use Rattle.poset.specs.Tree.{Kind, Tree, leaf, node, Forest, last, more, leaves, forestLeaves, groups, forestGroups, Spans}
 use Rattle.poset.specs.Decompose.{treeOf}
-use Rattle.poset.proofs.Laws.{clash, lt-true, false-unless, ltb-true, flatMap-append}
+use Rattle.poset.proofs.Laws.{clash, flatMap-append}
 use Rattle.poset.proofs.Theorems.{tree-of-sound}
-use Rattle.record.specs.Bits.{AllBelow, bits, bytesOf}
-use Rattle.record.specs.Layout.{kindBit, moreChildren, treeBits, forestBits, layout}
-use Rattle.record.proofs.Below.{below-nil, below-cons, below-append}
-use Rattle.record.proofs.Fields.{bits-cons}
+use Rattle.record.specs.Bits.{bits, bytesOf}
+use Rattle.record.specs.Layout.{hoursBits, kindBit, moreChildren, hoursOf, treeBits, forestBits, layout, recordRoom}
+use Rattle.record.proofs.Fields.{bit-alone, bits-cons}
 use Rattle.record.proofs.Records.{layout-length}
 use Rattle.record.proofs.Sizes.{groups-lt, forest-groups, kind-below, length-treeBits, length-leaves, Small, small-left, small-right, spans-small}
 use Rattle.writer.specs.Packing.{fieldBits, Ends}
@@ -24,58 +22,40 @@ use Rattle.writer.specs.Tokens.{groupToken, tokens, forestTokens, shape}
 use Rattle.writer.specs.Written.{filled, written}
 use Rattle.writer.specs.declared.tree.Shape.{Shape}
 use Rattle.writer.specs.declared.writing.Written.{Written}
+use Rattle.writer.proofs.Packs.{leaf-bits, group-bits}
 
-leaf-bits : (j : ℕ) → j < 128 → fieldBits j ≡ 0 ∷ bits 7 j
-unfolding fieldBits
-leaf-bits j l =
-    let e : j ≡ 0 * 2 ^ 7 + j = omega arith in
-    ap (λ b. elim b [ true ↦ bits 8 j | false ↦ 1 ∷ bits 8 (j - 256) ]) (lt-true j 256 (omega arith))
-    ∙ ap (bits 8) e
-    ∙ bits-cons 7 0 j (omega arith) (omega arith)
+module _ (hours : List ℕ) where
+  leaf-token : (j : ℕ) → j < 128 → fieldBits hours j ≡ 0 ∷ bits 7 j ++ bits hoursBits (hoursOf hours j)
+  leaf-token j l =
+      let e : j ≡ 0 * 2 ^ 7 + j = omega arith in
+      leaf-bits hours j l ∙ ap (λ x. x ++ bits hoursBits (hoursOf hours j)) (ap (bits 8) e ∙ bits-cons 7 0 j (omega arith) (omega arith))
 
-group-bits : (k : Kind) (m : ℕ) → m < 128 → fieldBits (groupToken k m) ≡ 1 ∷ kindBit k ∷ bits 7 m
-unfolding fieldBits
-group-bits k m l =
-    let x = groupToken k m in
-    let e : x - 256 ≡ kindBit k * 2 ^ 7 + m = omega arith in
-    let big : ltb x 256 ≡ false = false-unless (ltb x 256) (λ h. omega (arith, ltb-true x 256 h)) in
-    ap (λ b. elim b [ true ↦ bits 8 x | false ↦ 1 ∷ bits 8 (x - 256) ]) big
-    ∙ ap (λ y. 1 ∷ bits 8 y) e
-    ∙ ap (λ l. 1 ∷ l) (bits-cons 7 (kindBit k) m (kind-below k) (omega arith))
+  group-token : (k : Kind) (m : ℕ) → m < 128 → fieldBits hours (groupToken k m) ≡ 1 ∷ kindBit k ∷ bits 7 m
+  group-token k m l =
+      let e : groupToken k m % 256 ≡ kindBit k * 2 ^ 7 + m = omega (arith, kind-below k) in
+      group-bits hours (groupToken k m) (omega arith)
+      ∙ ap₂ _++_ (bit-alone 1 (omega arith)) (ap (bits 8) e ∙ bits-cons 7 (kindBit k) m (kind-below k) (omega arith))
 
 -- a group has at most 128 children
 children-few : (t : Tree) (f : Forest) → Small (leaves t ++ forestLeaves f) → moreChildren f < 128
 children-few t f h = omega (arith, h .1, length-append (leaves t) (forestLeaves f), groups-lt t, forest-groups f)
 
-mutual
-  unfolding leaves treeBits flatMap
+module _ (hours : List ℕ) where
+  mutual
+    unfolding leaves treeBits flatMap
 
-  pub token-bits : (t : Tree) → Small (leaves t) → flatMap fieldBits (tokens t) ≡ treeBits t
-  token-bits (leaf j) h = append-nil (fieldBits j) ∙ leaf-bits j (h .0 j (List·Memᴰ·head refl))
-  token-bits (node k t f) h =
-      ap₂ _++_ (group-bits k (moreChildren f) (children-few t f h))
-      (flatMap-append fieldBits (tokens t) (forestTokens f)
-      ∙ ap₂ _++_ (token-bits t (small-left (leaves t) (forestLeaves f) h)) (forest-token-bits f (small-right (leaves t) (forestLeaves f) h)))
+    pub token-bits : (t : Tree) → Small (leaves t) → flatMap (fieldBits hours) (tokens t) ≡ treeBits hours t
+    token-bits (leaf j) h = append-nil (fieldBits hours j) ∙ leaf-token hours j (h .0 j (List·Memᴰ·head refl))
+    token-bits (node k t f) h =
+        ap₂ _++_ (group-token hours k (moreChildren f) (children-few t f h))
+        (flatMap-append (fieldBits hours) (tokens t) (forestTokens f)
+        ∙ ap₂ _++_ (token-bits t (small-left (leaves t) (forestLeaves f) h)) (forest-token-bits f (small-right (leaves t) (forestLeaves f) h)))
 
-  forest-token-bits : (f : Forest) → Small (forestLeaves f) → flatMap fieldBits (forestTokens f) ≡ forestBits f
-  forest-token-bits (last t) h = token-bits t h
-  forest-token-bits (more t f) h =
-      flatMap-append fieldBits (tokens t) (forestTokens f)
-      ∙ ap₂ _++_ (token-bits t (small-left (leaves t) (forestLeaves f) h)) (forest-token-bits f (small-right (leaves t) (forestLeaves f) h))
-
-mutual
-  unfolding leaves
-
-  tokens-below : (t : Tree) → Small (leaves t) → AllBelow 512 (tokens t)
-  tokens-below (leaf j) h = below-cons (omega (arith, h .0 j (List·Memᴰ·head refl))) below-nil
-  tokens-below (node k t f) h =
-      below-cons (omega (arith, kind-below k, children-few t f h))
-      (below-append (tokens-below t (small-left (leaves t) (forestLeaves f) h)) (forest-tokens-below f (small-right (leaves t) (forestLeaves f) h)))
-
-  forest-tokens-below : (f : Forest) → Small (forestLeaves f) → AllBelow 512 (forestTokens f)
-  forest-tokens-below (last t) h = tokens-below t h
-  forest-tokens-below (more t f) h =
-      below-append (tokens-below t (small-left (leaves t) (forestLeaves f) h)) (forest-tokens-below f (small-right (leaves t) (forestLeaves f) h))
+    forest-token-bits : (f : Forest) → Small (forestLeaves f) → flatMap (fieldBits hours) (forestTokens f) ≡ forestBits hours f
+    forest-token-bits (last t) h = token-bits t h
+    forest-token-bits (more t f) h =
+        flatMap-append (fieldBits hours) (tokens t) (forestTokens f)
+        ∙ ap₂ _++_ (token-bits t (small-left (leaves t) (forestLeaves f) h)) (forest-token-bits f (small-right (leaves t) (forestLeaves f) h))
 
 -- a field for each leaf and group
 
@@ -96,10 +76,9 @@ mutual
       both (tokens t) (forestTokens f) (leaves t) (forestLeaves f) (groups t) (forestGroups f) (tokens-length t) (forest-tokens-length f)
 
 -- what packing asks of the fields of an order's tree, and what it gives
-pub record Spells (t : Tree) (fields : List ℕ) : Type 0 where
-  pub low : AllBelow 512 fields
-  pub room : length (flatMap fieldBits fields) ≤ 2167
-  pub these : flatMap fieldBits fields ≡ treeBits t
+pub record Spells (hours : List ℕ) (t : Tree) (fields : List ℕ) : Type 0 where
+  pub room : 7 + length (flatMap (fieldBits hours) fields) ≤ 8 * recordRoom
+  pub these : flatMap (fieldBits hours) fields ≡ treeBits hours t
 
 -- a tree or none, as a flag tells
 told : (P : Option Tree → Type 0) (ok : Bool) → (P none → ok ≡ false) → ((t : Tree) → P (some t) → ok ≡ true) → (o : Option Tree) → P o
@@ -111,9 +90,9 @@ pub shape-told : (o : Option Tree) (r : Shape) → r ≡ shape o
     → (r .ok ≡ true → (t : Tree) × (o ≡ some t) × (r ≡ shape (some t))) × (r .ok ≡ false → o ≡ none)
 shape-told o r = told (λ o. r ≡ shape o) (r .ok) (ap (λ (r : Shape). r .ok)) (λ t. ap (λ (r : Shape). r .ok)) o
 
-pub written-told : (n : ℕ) (o : Option Tree) (w : Written) → w ≡ written n o
-    → (w .ok ≡ true → (t : Tree) × (o ≡ some t) × (w ≡ written n (some t))) × (w .ok ≡ false → o ≡ none)
-written-told n o w = told (λ o. w ≡ written n o) (w .ok) (ap (λ (w : Written). w .ok)) (λ t. ap (λ (w : Written). w .ok)) o
+pub written-told : (n : ℕ) (hours : List ℕ) (o : Option Tree) (w : Written) → w ≡ written n hours o
+    → (w .ok ≡ true → (t : Tree) × (o ≡ some t) × (w ≡ written n hours (some t))) × (w .ok ≡ false → o ≡ none)
+written-told n hours o w = told (λ o. w ≡ written n hours o) (w .ok) (ap (λ (w : Written). w .ok)) (λ t. ap (λ (w : Written). w .ok)) o
 
 module _ (n : ℕ) (few : n ≤ 128) (r : Rel) (strict : Strict n r) (t : Tree) (e : treeOf n r ≡ some t) where
   spans : Spans n t
@@ -136,42 +115,41 @@ module _ (n : ℕ) (few : n ≤ 128) (r : Rel) (strict : Strict n r) (t : Tree) 
     fields-are : take (s .count) (s .fields) ≡ tokens t
     fields-are = ap (λ (s : Shape). take (s .count) (s .fields)) is ∙ take-at (tokens t) (replicate (256 - length (tokens t)) 0) (length (tokens t)) refl
 
-    pub spells : Spells t (take (s .count) (s .fields))
-    spells =
-        let small = spans-small n t few spans in
-        let same = ap (flatMap fieldBits) fields-are ∙ token-bits t small in
-        record {
-          low = subst (AllBelow 512) (sym fields-are) (tokens-below t small);
-          room = omega (arith, ap length same, length-treeBits t, groups-lt t, length-leaves n t spans);
-          these = same;
-        }
+    module _ (hours : List ℕ) where
+      pub spells : Spells hours t (take (s .count) (s .fields))
+      spells =
+          let same = ap (flatMap (fieldBits hours)) fields-are ∙ token-bits hours t (spans-small n t few spans) in
+          record {
+            room = omega (arith, ap length same, length-treeBits hours t, groups-lt t, length-leaves n t spans);
+            these = same;
+          }
 
-    -- the packed fields are the record
-    pub wrote : (bytes : List ℕ) (count : ℕ) → Ends (bits 7 (n - 1) ++ flatMap fieldBits (take (s .count) (s .fields))) bytes count
-        → record { ok = true; bytes = bytes; count = count; groups = s .groups; forward = s .forward; reverse = s .reverse } ≡ written n (treeOf n r)
-    unfolding layout
-    wrote bytes count p =
-        let same : bytesOf (bits 7 (n - 1) ++ flatMap fieldBits (take (s .count) (s .fields))) ≡ layout n t =
-        ap (λ l. bytesOf (bits 7 (n - 1) ++ l)) (spells .these) in
-        let eb = p .these ∙ ap filled same in
-        let ec = p .number ∙ ap length same in
-        (λ i. record { ok = true; bytes = eb i; count = ec i; groups = is i .groups; forward = is i .forward; reverse = is i .reverse })
-        ∙ ap (written n) (sym e)
+      -- the packed fields are the record
+      pub wrote : (bytes : List ℕ) (count : ℕ) → Ends (bits 7 (n - 1) ++ flatMap (fieldBits hours) (take (s .count) (s .fields))) bytes count
+          → record { ok = true; bytes = bytes; count = count; groups = s .groups; forward = s .forward; reverse = s .reverse } ≡ written n hours (treeOf n r)
+      unfolding layout
+      wrote bytes count p =
+          let same : bytesOf (bits 7 (n - 1) ++ flatMap (fieldBits hours) (take (s .count) (s .fields))) ≡ layout n hours t =
+          ap (λ l. bytesOf (bits 7 (n - 1) ++ l)) (spells .these) in
+          let eb = p .these ∙ ap filled same in
+          let ec = p .number ∙ ap length same in
+          (λ i. record { ok = true; bytes = eb i; count = ec i; groups = is i .groups; forward = is i .forward; reverse = is i .reverse })
+          ∙ ap (written n hours) (sym e)
 
   -- the bytes that are written
-  module _ (w : Written) (is : w ≡ written n (some t)) where
-    pub bytes-count : w .count ≡ length (layout n t)
+  module _ (hours : List ℕ) (w : Written) (is : w ≡ written n hours (some t)) where
+    pub bytes-count : w .count ≡ length (layout n hours t)
     bytes-count = ap (λ (w : Written). w .count) is
 
-    pub bytes-few : w .count ≤ 272
-    bytes-few = omega (arith, bytes-count, layout-length n t few spans .2)
+    pub bytes-few : w .count ≤ recordRoom
+    bytes-few = omega (arith, bytes-count, layout-length n hours t few spans .2)
 
-    pub bytes-size : length (w .bytes) ≡ 272
+    pub bytes-size : length (w .bytes) ≡ recordRoom
     bytes-size =
         ap (λ (w : Written). length (w .bytes)) is
-        ∙ length-append (layout n t) (replicate (272 - length (layout n t)) 0)
-        ∙ omega (arith, length-replicate {A = ℕ} (272 - length (layout n t)) 0, layout-length n t few spans .2)
+        ∙ length-append (layout n hours t) (replicate (recordRoom - length (layout n hours t)) 0)
+        ∙ omega (arith, length-replicate {A = ℕ} (recordRoom - length (layout n hours t)) 0, layout-length n hours t few spans .2)
 
-    pub bytes-are : take (w .count) (w .bytes) ≡ layout n t
+    pub bytes-are : take (w .count) (w .bytes) ≡ layout n hours t
     bytes-are =
-        ap (λ (w : Written). take (w .count) (w .bytes)) is ∙ take-at (layout n t) (replicate (272 - length (layout n t)) 0) (length (layout n t)) refl
+        ap (λ (w : Written). take (w .count) (w .bytes)) is ∙ take-at (layout n hours t) (replicate (recordRoom - length (layout n hours t)) 0) (length (layout n hours t)) refl

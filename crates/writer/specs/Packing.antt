@@ -1,34 +1,40 @@
 -- Fields of bits as bytes, and what a packing holds.
 -- An inner contract: who reads the promise of write_record need not believe it, but specs/Written.antt alone.
-use Prim.Native.Nat.{ℕ, _-_, _≤_, _<_, _^_}
+use Prim.Native.Nat.{ℕ, _+_, _*_, _-_, _%_, _≤_, _<_, _^_}
 use mathlib.Core.Path.{_≡_}
 use mathlib.Core.List.{List, _∷_, _++_}
 use mathlib.Core.Bool.{true, false}
 use lib.Dec.{ltb}
 use lib.ListN.{length, take, drop, replicate}
 use Rattle.record.specs.Bits.{AllBelow, bits, bitsOf, bytesOf}
+use Rattle.record.specs.Layout.{hoursBits, hoursOf, recordRoom}
 use Rattle.writer.specs.Written.{filled}
 use Rattle.writer.specs.declared.pack.Packing.{Packing}
 
--- a leaf is 8 bits; a group, 256 and more, is a 1 and 8 bits
-unfoldable pub fieldBits : ℕ → List ℕ
-fieldBits x = elim (ltb x 256) [ true ↦ bits 8 x | false ↦ 1 ∷ bits 8 (x - 256) ]
+-- a leaf is its job in 8 bits, and the job's hours; a group, 256 and more, is a 1 and 8 bits
+unfoldable pub fieldBits : List ℕ → ℕ → List ℕ
+fieldBits hours x = elim (ltb x 128) [ true ↦ bits 8 x ++ bits hoursBits (hoursOf hours x) | false ↦ 1 ∷ bits 8 (x % 256) ]
 
--- there is room for a byte more
-pub record Ready (p : Packing) : Type 0 where
-  pub room : p .at < 272
+-- there is room for so many bits more
+pub record Ready (p : Packing) (more : ℕ) : Type 0 where
+  pub room : 8 * p .at + p .have + more ≤ 8 * recordRoom
   pub few : p .have < 8
   pub small : p .value < 2 ^ p .have
 
 -- the bits bs are the whole bytes and the bits in hand; the other bytes are 0
 pub record Holds (bs bytes : List ℕ) (p : Packing) : Type 0 where
-  pub size : length bytes ≡ 272
-  pub whole : p .at ≤ 272
+  pub size : length bytes ≡ recordRoom
+  pub whole : p .at ≤ recordRoom
   pub few : p .have < 8
   pub small : p .value < 2 ^ p .have
   pub low : AllBelow 256 (take (p .at) bytes)
-  pub blank : drop (p .at) bytes ≡ replicate (272 - p .at) 0
+  pub blank : drop (p .at) bytes ≡ replicate (recordRoom - p .at) 0
   pub these : bs ≡ bitsOf (take (p .at) bytes) ++ bits (p .have) (p .value)
+
+-- these bits more are held, in as much room
+pub record Puts (these bytes : List ℕ) (p : Packing) (bytes′ : List ℕ) (q : Packing) : Type 0 where
+  pub held : (bs : List ℕ) → Holds bs bytes p → Holds (bs ++ these) bytes′ q
+  pub left : (more : ℕ) → Ready p (length these + more) → Ready q more
 
 -- the bytes of the bits bs, and how many there are
 pub record Ends (bs bytes : List ℕ) (count : ℕ) : Type 0 where

@@ -1,10 +1,11 @@
 //! Bit fields, one after another, as bytes.
 ghost use mathlib.Core.Path.{_≡_};
-ghost use mathlib.Core.List.{List, [], _∷_, _++_, flatMap};
-ghost use Prim.Native.Nat.{ℕ, _+_, _-_, _<_, _≤_, _^_};
+ghost use mathlib.Core.List.{List, _++_, flatMap};
+ghost use Prim.Native.Nat.{ℕ, _+_, _*_, _-_, _<_, _≤_, _^_};
 ghost use lib.ListN.{length};
 ghost use Rattle.record.specs.Bits.{AllBelow, bits};
-ghost use Rattle.writer.specs.Packing.{Holds, Ready, fieldBits, Ends};
+ghost use Rattle.record.specs.Layout.{hoursBits, leafBits, recordRoom};
+ghost use Rattle.writer.specs.Packing.{Holds, Ready, Puts, fieldBits, Ends};
 
 // So many whole bytes, and some bits more, fewer than 8, by their value.
 pub struct Packing {
@@ -13,65 +14,65 @@ pub struct Packing {
     pub value: usize,
 }
 
-// Eight bits more: one byte is complete.
-fn put_byte(bytes: &mut [u8; 272], p: Packing, field: usize) -> Packing
-    requires { ⌜ Ready p ⌝ }
-    requires { ⌜ field < 256 ⌝ }
-    ensures { λ r. ⌜ ((bs : List ℕ) → Holds bs (now (bytes .entry)) p → Holds (bs ++ bits 8 field) (now (bytes .exit)) r) ⌝ }
+// So many bits more, at most 8: they complete a byte, or stay in hand.
+fn put_bits(
+    bytes: &mut [u8; record::RECORD_ROOM],
+    p: Packing,
+    width: usize,
+    field: usize,
+) -> Packing
+    requires { ⌜ Ready p width ⌝ }
+    requires { ⌜ (width ≤ 8) × (field < 2 ^ width) ⌝ }
+    ensures { λ r. ⌜ Puts (bits width field) (now (bytes .entry)) p (now (bytes .exit)) r ⌝ }
 {
     let at = p.at;
-    let have = p.have;
-    let whole = p.value * 256 + field;
-    bytes[at] = ((whole >> have) % 256) as u8;
+    let have = p.have + width;
+    let value = (p.value << width) + field;
+    if have < 8 {
+        return Packing { at, have, value };
+    }
+    let rest = have - 8;
+    bytes[at] = ((value >> rest) % 256) as u8;
     Packing {
         at: at + 1,
-        have,
-        value: whole % (1 << have),
+        have: rest,
+        value: value % (1 << rest),
     }
 }
 
-// One bit more, a 1.
-fn put_one(bytes: &mut [u8; 272], p: Packing) -> Packing
-    requires { ⌜ Ready p ⌝ }
-    ensures { λ r. ⌜ ((bs : List ℕ) → Holds bs (now (bytes .entry)) p → Holds (bs ++ 1 ∷ []) (now (bytes .exit)) r) ⌝ }
-    ensures { λ r. ⌜ (r .at ≤ p .at + 1) × (r .have < 8) × (r .value < 2 ^ r .have) ⌝ }
+// A leaf more: its job, and 12 bits of hours.
+fn put_leaf(bytes: &mut [u8; record::RECORD_ROOM], p: Packing, job: usize, hours: usize) -> Packing
+    requires { ⌜ Ready p leafBits ⌝ }
+    requires { ⌜ (job < 256) × (hours < 2 ^ hoursBits) ⌝ }
+    ensures { λ r. ⌜ Puts (bits 8 job ++ bits hoursBits hours) (now (bytes .entry)) p (now (bytes .exit)) r ⌝ }
 {
-    let at = p.at;
-    let value = p.value * 2 + 1;
-    if p.have == 7 {
-        bytes[at] = (value % 256) as u8;
-        Packing {
-            at: at + 1,
-            have: 0,
-            value: 0,
-        }
-    } else {
-        Packing {
-            at,
-            have: p.have + 1,
-            value,
-        }
-    }
+    let q = put_bits(bytes, p, 8, job);
+    let r = put_bits(bytes, q, 8, hours / 16);
+    put_bits(bytes, r, 4, hours % 16)
 }
 
-// One field more: a leaf, or a group.
-fn put_field(bytes: &mut [u8; 272], p: Packing, field: usize) -> Packing
-    requires { ⌜ Ready p ⌝ }
-    requires { ⌜ p .at + 1 < 272 ⌝ }
-    requires { ⌜ field < 512 ⌝ }
-    ensures { λ r. ⌜ ((bs : List ℕ) → Holds bs (now (bytes .entry)) p → Holds (bs ++ fieldBits field) (now (bytes .exit)) r) ⌝ }
+// One field more: a leaf with its job's hours, or a group.
+fn put_field(
+    bytes: &mut [u8; record::RECORD_ROOM],
+    p: Packing,
+    field: usize,
+    hours: &[u16; 128],
+) -> Packing
+    requires { ⌜ Ready p (length (fieldBits (now hours) field)) ⌝ }
+    requires { ⌜ AllBelow (2 ^ hoursBits) (now hours) ⌝ }
+    ensures { λ r. ⌜ Puts (fieldBits (now (hours .entry)) field) (now (bytes .entry)) p (now (bytes .exit)) r ⌝ }
 {
-    if field < 256 {
-        put_byte(bytes, p, field)
+    if field < 128 {
+        put_leaf(bytes, p, field, wide(hours[field]))
     } else {
-        let q = put_one(bytes, p);
-        put_byte(bytes, q, field - 256)
+        let q = put_bits(bytes, p, 1, 1);
+        put_bits(bytes, q, 8, field % 256)
     }
 }
 
 // The bits in hand, filled with zeros, as a last byte; and how many bytes there are.
-fn finish(bytes: &mut [u8; 272], p: Packing) -> usize
-    requires { ⌜ Ready p ⌝ }
+fn finish(bytes: &mut [u8; record::RECORD_ROOM], p: Packing) -> usize
+    requires { ⌜ Ready p 0 ⌝ }
     ensures { λ r. ⌜ ((bs : List ℕ) → Holds bs (now (bytes .entry)) p → Ends bs (now (bytes .exit)) r) ⌝ }
 {
     let at = p.at;
@@ -84,18 +85,18 @@ fn finish(bytes: &mut [u8; 272], p: Packing) -> usize
 }
 
 pub struct Packed {
-    pub bytes: [u8; 272],
+    pub bytes: [u8; record::RECORD_ROOM],
     pub count: usize,
 }
 
 // The bytes of a record: 7 bits for the count of jobs minus 1, then the fields.
-pub fn pack(n: usize, fields: &[u16]) -> Packed
+pub fn pack(n: usize, fields: &[u16], hours: &[u16; 128]) -> Packed
     requires { ⌜ (0 < n) × (n ≤ 128) ⌝ }
-    requires { ⌜ AllBelow 512 (now fields) ⌝ }
-    requires { ⌜ length (flatMap fieldBits (now fields)) ≤ 2167 ⌝ }
-    ensures { λ r. ⌜ Ends (bits 7 (n - 1) ++ flatMap fieldBits (now (fields .entry))) (r .bytes) (r .count) ⌝ }
+    requires { ⌜ 7 + length (flatMap (fieldBits (now hours)) (now fields)) ≤ 8 * recordRoom ⌝ }
+    requires { ⌜ AllBelow (2 ^ hoursBits) (now hours) ⌝ }
+    ensures { λ r. ⌜ Ends (bits 7 (n - 1) ++ flatMap (fieldBits (now (hours .entry))) (now (fields .entry))) (r .bytes) (r .count) ⌝ }
 {
-    let mut bytes = [0; 272];
+    let mut bytes = [0; record::RECORD_ROOM];
     let mut p = Packing {
         at: 0,
         have: 7,
@@ -103,7 +104,7 @@ pub fn pack(n: usize, fields: &[u16]) -> Packed
     };
     let mut i = 0;
     while i < fields.len() {
-        let next = put_field(&mut bytes, p, wide(fields[i]));
+        let next = put_field(&mut bytes, p, wide(fields[i]), hours);
         p = next;
         i += 1;
     }

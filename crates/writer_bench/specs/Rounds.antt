@@ -3,13 +3,18 @@ use Prim.Native.Nat.{ℕ, _*_}
 use mathlib.Core.List.{List}
 use mathlib.Core.Bool.{true, false, _&&_}
 use lib.Dec.{leb}
+use lib.ListN.{replicate}
 use Rattle.poset.specs.Order.{Arc, before}
 use Rattle.poset.specs.Decompose.{treeOf}
 use Rattle.relation_bench.specs.Steps.{fits, acyclic}
 use Rattle.writer.specs.Written.{written}
 
+-- the hours of the jobs: none has any
+abbrev pub noHours : List ℕ
+noHours = replicate 128 0
+
 -- so many times the bytes of the record of arcs that fit and have no cycle, for one job at least and a million rounds at most; else 0
 unfoldable pub bytesWritten : ℕ → ℕ → List Arc → ℕ
 bytesWritten rounds n arcs =
     let r = before n arcs in
-    elim (leb 1 n && (leb rounds 1000000 && (fits n arcs && acyclic n r))) [ true ↦ rounds * (written n (treeOf n r) .count) | false ↦ 0 ]
+    elim (leb 1 n && (leb rounds 1000000 && (fits n arcs && acyclic n r))) [ true ↦ rounds * (written n noHours (treeOf n r) .count) | false ↦ 0 ]

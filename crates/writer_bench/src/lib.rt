@@ -1,34 +1,43 @@
 //! The writing of crate `writer`, called from C by bench/writer. Arcs that do not fit are refused.
 use relation::order;
 use writer::writing;
-ghost use Prim.Native.Nat.{ℕ, _*_, _<_, _≤_};
+ghost use Prim.Native.Nat.{ℕ, _*_, _<_, _≤_, _^_};
 ghost use mathlib.Core.Path.{_≡_};
 ghost use Rattle.poset.specs.Order.{Strict};
 ghost use Rattle.poset.specs.Decompose.{treeOf};
+ghost use Rattle.record.specs.Bits.{AllBelow};
+ghost use Rattle.record.specs.Layout.{hoursBits};
 ghost use Rattle.relation.specs.Table.{holds, Inside};
 ghost use Rattle.relation.specs.Arcs.{pairs};
 ghost use Rattle.writer.specs.Written.{written};
 ghost use Rattle.writer_bench.specs.Rounds.{bytesWritten};
 
 // The record of an order, written so many times over: its bytes in all.
-fn repeated(after: [[u64; 2]; 128], under: &[[u64; 2]; 128], n: usize, rounds: usize) -> usize
+fn repeated(
+    after: [[u64; 2]; 128],
+    under: &[[u64; 2]; 128],
+    n: usize,
+    hours: &[u16; 128],
+    rounds: usize,
+) -> usize
     requires { ⌜ (0 < n) × (n ≤ 128) × (rounds ≤ 1000000) ⌝ }
     requires { ⌜ Strict n (holds after) ⌝ }
     requires { ⌜ Inside n after ⌝ }
     requires { ⌜ ((u v : ℕ) → holds (now under) u v ≡ holds after v u) ⌝ }
-    ensures { λ r. ⌜ r ≡ rounds * (written n (treeOf n (holds after)) .count) ⌝ }
+    requires { ⌜ AllBelow (2 ^ hoursBits) (now hours) ⌝ }
+    ensures { λ r. ⌜ r ≡ rounds * (written n (now (hours .entry)) (treeOf n (holds after)) .count) ⌝ }
 {
     let mut sum = 0;
     let mut i = 0;
     while i < rounds {
-        let w = writing::write_record(after, under, n);
+        let w = writing::write_record(after, under, n, hours);
         sum += w.count;
         i += 1;
     }
     sum
 }
 
-// The record of the arcs' order, written so many times over: its bytes in all. At most a million rounds, and one job at least.
+// The record of the arcs' order with no hours, written so many times over: its bytes in all. At most a million rounds, and one job at least.
 #[no_mangle]
 pub extern "C" fn bench_write(arcs: &[u16], n: u16, rounds: usize) -> usize
     ensures { λ r. ⌜ r ≡ bytesWritten rounds n (pairs (now (arcs .entry))) ⌝ }
@@ -48,5 +57,6 @@ pub extern "C" fn bench_write(arcs: &[u16], n: u16, rounds: usize) -> usize
         return 0;
     }
     let under = order::transposed(after, jobs);
-    repeated(after, &under, jobs, rounds)
+    let hours = [0; 128];
+    repeated(after, &under, jobs, &hours, rounds)
 }

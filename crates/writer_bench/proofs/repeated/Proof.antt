@@ -4,6 +4,7 @@ use native.Mathlib.Nat.{zero-mul}
 use native.Mathlib.Omega.{arith}
 use mathlib.Core.Path.{_≡_, sym, ap, subst, _∙_}
 use Rattle.poset.specs.Decompose.{treeOf}
+use Rattle.record.specs.Layout.{recordRoom}
 use Rattle.relation.specs.Table.{holds}
 use Rattle.writer.specs.Written.{written}
 use Rattle.writer.specs.declared.writing.Written.{Written}
@@ -12,16 +13,16 @@ use Rattle.writer_bench.proofs.repeated.Statement.{statement}
 use Rattle.writer_bench.proofs.repeated.Tie as tie
 
 abbrev Inv-loop : tie.InvT-loop
-Inv-loop after under n rounds sum₀ i₀ sum i = Summed (written n (treeOf n (holds after)) .count) rounds sum i
+Inv-loop after under n hours rounds sum₀ i₀ sum i = Summed (written n hours (treeOf n (holds after)) .count) rounds sum i
 
 abbrev μ-loop : tie.MeasureT-loop
-μ-loop after under n rounds sum₀ i₀ sum i = rounds - i
+μ-loop after under n hours rounds sum₀ i₀ sum i = rounds - i
 
 abbrev bytes : tie.Start Inv-loop μ-loop → ℕ
-bytes s = written (s .args .n) (treeOf (s .args .n) (holds (s .args .after))) .count
+bytes s = written (s .args .n) (s .args .hours .now) (treeOf (s .args .n) (holds (s .args .after))) .count
 
-few : (s : tie.Start Inv-loop μ-loop) → bytes s ≤ 272
-few s = record-few (s .args .n) (s .pre .0 .1) (holds (s .args .after)) (s .pre .1 .0)
+few : (s : tie.Start Inv-loop μ-loop) → bytes s ≤ recordRoom
+few s = record-few (s .args .n) (s .args .hours .now) (s .pre .0 .1) (holds (s .args .after)) (s .pre .1 .0)
 
 count : (c : tie.After-write-record Inv-loop μ-loop) → c .write-record .result .count ≡ bytes (c .before .before .before)
 count c = ap (λ (w : Written). w .count) (c .write-record .ensures)

@@ -1,26 +1,24 @@
 -- `pack::pack`: the fields one after another.
 use borrow.Author.Needs.{needs}
 use Prim.Native.Nat.{_-_}
-use native.Mathlib.Omega.{arith}
 use lib.ListN.{length}
-use Rattle.writer.proofs.Packed.{SoFar, start, next, ready, room-for-field, done, getD-below}
-use mathlib.Core.Path.{subst}
-use mathlib.Core.List.{_++_}
-use Rattle.writer.specs.Packing.{Holds, fieldBits}
+use Rattle.writer.proofs.Packed.{SoFar, start, next, ready, ready-for-field, done}
+use mathlib.Core.Path.{sym, subst}
+use Rattle.writer.specs.Packing.{Ready, Puts, fieldBits}
 use Rattle.writer.proofs.pack.pack.Statement.{statement}
 use Rattle.writer.proofs.pack.pack.Tie as tie
 
 abbrev Inv-loop : tie.InvT-loop
-Inv-loop n fields bytes₀ p₀ i₀ bytes p i = SoFar n fields bytes p i
+Inv-loop n fields hours bytes₀ p₀ i₀ bytes p i = SoFar n hours fields bytes p i
 
 abbrev μ-loop : tie.MeasureT-loop
-μ-loop n fields bytes₀ p₀ i₀ bytes p i = length fields - i
+μ-loop n fields hours bytes₀ p₀ i₀ bytes p i = length fields - i
 
-sub-t8 : tie.Need-sub-t8 Inv-loop μ-loop
-sub-t8 c = search needs
+sub-t9 : tie.Need-sub-t9 Inv-loop μ-loop
+sub-t9 c = search needs
 
 loop-holds : tie.Need-loop-holds Inv-loop μ-loop
-loop-holds c = let s = c .before in start (s .args .n) (s .args .fields .now) (s .pre .0 .0) (s .pre .0 .1)
+loop-holds c = let s = c .before in start (s .args .n) (s .args .hours .now) (s .args .fields .now) (s .pre .0 .0) (s .pre .0 .1)
 
 mul-wide : tie.Need-mul-wide Inv-loop μ-loop
 mul-wide c = search needs
@@ -35,13 +33,10 @@ put-field-requires : tie.Need-put-field-requires Inv-loop μ-loop
 put-field-requires c κs =
     let s = c .before .before .before .before .before .before in
     let l = c .before .before .before .before .loop in
-    let here = c .before .before .before .loop-test .taken in
-    let few = s .pre .1 .1 in (
-      ready (s .args .n) (s .args .fields .now) (l .bytes) (l .p) (l .i) few (l .inv),
-      (
-        room-for-field (s .args .n) (s .args .fields .now) (l .bytes) (l .p) (l .i) few here (l .inv),
-        omega (arith, c .wide .ensures, getD-below 512 (s .args .fields .now) (l .i) (s .pre .1 .0) here),
-      ),
+    let hours = s .args .hours .now in (
+      subst (λ x. Ready (l .p) (length (fieldBits hours x))) (sym (c .wide .ensures))
+          (ready-for-field (s .args .n) hours (s .args .fields .now) (l .bytes) (l .p) (l .i) (l .inv) (s .pre .1 .0) (c .before .before .before .loop-test .taken)),
+      s .pre .1 .1,
     )
 
 add-i : tie.Need-add-i Inv-loop μ-loop
@@ -54,23 +49,23 @@ loop-again : tie.Need-loop-again Inv-loop μ-loop
 loop-again c =
     let s = c .before .before .before .before .before .before .before in
     let l = c .before .before .before .before .before .loop in
-    next (s .args .n) (s .args .fields .now) (l .bytes) (l .p) (l .i) (c .put-field .last .0) (c .put-field .result)
+    let hours = s .args .hours .now in
+    next (s .args .n) hours (s .args .fields .now) (l .bytes) (l .p) (l .i) (l .inv) (c .put-field .last .0) (c .put-field .result)
     (c .before .before .before .before .loop-test .taken)
-    (λ bs h. subst (λ x. Holds (bs ++ fieldBits x) (c .put-field .last .0) (c .put-field .result)) (c .before .wide .ensures) (c .put-field .ensures bs h))
-    (l .inv)
+    (subst (λ x. Puts (fieldBits hours x) (l .bytes) (l .p) (c .put-field .last .0) (c .put-field .result)) (c .before .wide .ensures) (c .put-field .ensures))
 
 finish-requires : tie.Need-finish-requires Inv-loop μ-loop
 finish-requires c κs =
     let s = c .before .before .before .before in
     let l = c .before .before .loop in
-    ready (s .args .n) (s .args .fields .now) (l .bytes) (l .p) (l .i) (s .pre .1 .1) (l .inv)
+    ready (s .args .n) (s .args .hours .now) (s .args .fields .now) (l .bytes) (l .p) (l .i) (l .inv) (s .pre .1 .0)
 
 returns : tie.Need-returns Inv-loop μ-loop
 returns c =
     let s = c .before .before .before .before .before in
     let l = c .before .before .before .loop in
-    done (s .args .n) (s .args .fields .now) (l .bytes) (l .p) (l .i) (c .finish .last .0) (c .finish .result)
-    (c .before .before .loop-test .left) (c .finish .ensures) (l .inv)
+    done (s .args .n) (s .args .hours .now) (s .args .fields .now) (l .bytes) (l .p) (l .i) (l .inv) (c .finish .last .0) (c .finish .result)
+    (c .before .before .loop-test .left) (c .finish .ensures)
 
 pub pack-spec : {M : Type 1} → statement M
 pack-spec =
@@ -78,7 +73,7 @@ pack-spec =
     (tie.spec
     Inv-loop
     μ-loop
-    sub-t8
+    sub-t9
     loop-holds
     mul-wide
     shared-slice-read-wide

@@ -28,7 +28,7 @@ returns c =
     let a = c .before .before .before .before .args in
     let shape = c .before .before .before .shape-of in
     let none = shape-told (treeOf (a .n) (holds (a .after))) (shape .result) (shape .ensures) .1 (not-true (shape .result .ok) (c .before .if1 .taken)) in
-    c .unwritten .ensures ∙ ap (written (a .n)) (sym none)
+    c .unwritten .ensures ∙ ap (written (a .n) (a .hours .now)) (sym none)
 
 -- the shape of a tree
 module _ (c : tie.Else1) where
@@ -60,15 +60,15 @@ pack-requires : tie.Need-pack-requires
 pack-requires c κs =
     let s = start (c .before .before) in
     let (t, e, is) = told (c .before .before) in
-    let p = spells (s .args .n) (s .pre .0 .1) (holds (s .args .after)) (s .pre .1 .0) t e _ is in
-    (s .pre .0, (p .low, p .room))
+    let p = spells (s .args .n) (s .pre .0 .1) (holds (s .args .after)) (s .pre .1 .0) t e _ is (s .args .hours .now) in
+    (s .pre .0, (p .room, s .pre .1 .1 .1 .1))
 
 returns-2 : tie.Need-returns-2
 returns-2 c =
     let x = c .before .before .before .before .before .before in
     let s = start x in
     let (t, e, is) = told x in
-    wrote (s .args .n) (s .pre .0 .1) (holds (s .args .after)) (s .pre .1 .0) t e _ is _ _ (c .before .before .before .pack .ensures)
+    wrote (s .args .n) (s .pre .0 .1) (holds (s .args .after)) (s .pre .1 .0) t e _ is _ _ _ (c .before .before .before .pack .ensures)
 
 pub write-record-spec : {M : Type 1} → statement M
 write-record-spec =
