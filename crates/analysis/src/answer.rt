@@ -1,4 +1,4 @@
-//! An answer in document 01's numbers.
+//! An answer in the papers' numbers.
 use crate::Verdict;
 ghost use mathlib.Core.Path.{_≡_};
 ghost use Rattle.analysis.specs.Answer.{numbersOf};
@@ -21,5 +21,7 @@ pub fn numbers(verdict: Verdict) -> [usize; 5]
         Verdict::RecordRoom => [9, 0, 0, 0, 0],
         Verdict::ArcRoom => [10, 0, 0, 0, 0],
         Verdict::NoRecord => [11, 0, 0, 0, 0],
+        Verdict::HoursLength => [12, 0, 0, 0, 0],
+        Verdict::HoursLarge(j) => [13, j, 0, 0, 0],
     }
 }

@@ -2,6 +2,7 @@
 use crate::Analysis;
 use crate::Verdict;
 use crate::areas;
+use crate::hours;
 use crate::refused;
 use relation::Found;
 use relation::FoundFour;
@@ -10,11 +11,14 @@ use relation::order;
 use relation::reduction;
 use relation::search;
 use writer::writing;
-ghost use Prim.Native.Nat.{ℕ, _<_, _≤_};
+ghost use Prim.Native.Nat.{ℕ, _<_, _≤_, _^_};
 ghost use mathlib.Core.Path.{_≡_};
+ghost use lib.ListN.{length};
 ghost use Rattle.poset.specs.Order.{Strict, Within, before, firstN};
 ghost use Rattle.relation.specs.Table.{holds, Inside};
 ghost use Rattle.relation.specs.Arcs.{pairs};
+ghost use Rattle.record.specs.Bits.{AllBelow};
+ghost use Rattle.record.specs.Layout.{hoursBits};
 ghost use Rattle.analysis.specs.Outcome.{decomposed, ordered};
 ghost use Rattle.analysis.specs.Result.{Gives, rooms, crossedBy};
 
@@ -33,15 +37,23 @@ fn crossed(after: [[u64; 2]; 128], under: &[[u64; 2]; 128], n: usize) -> Analysi
 }
 
 // A strict order: its record and its reduced orders, each written once both are known to fit.
-fn take_apart(after: [[u64; 2]; 128], n: usize, bytes: &mut [u8], area: &mut [u8]) -> Analysis
+fn take_apart(
+    after: [[u64; 2]; 128],
+    n: usize,
+    hours: &[u16],
+    bytes: &mut [u8],
+    area: &mut [u8],
+) -> Analysis
     requires { ⌜ (0 < n) × (n ≤ 128) ⌝ }
     requires { ⌜ Strict n (holds after) ⌝ }
     requires { ⌜ Inside n after ⌝ }
-    ensures { λ r. ⌜ Gives (decomposed (rooms (now (bytes .entry)) (now (area .entry))) n (holds after))
+    requires { ⌜ (length (now hours) ≡ n) × AllBelow (2 ^ hoursBits) (now hours) ⌝ }
+    ensures { λ r. ⌜ Gives (decomposed (rooms (now (bytes .entry)) (now (area .entry))) n (now (hours .entry)) (holds after))
         (now (bytes .entry)) (now (area .entry)) r (now (bytes .exit)) (now (area .exit)) ⌝ }
 {
     let under = order::transposed(after, n);
-    let written = writing::write_record(after, &under, n);
+    let all = hours::padded(hours);
+    let written = writing::write_record(after, &under, n, &all);
     if !written.ok {
         return crossed(after, &under, n);
     }
@@ -62,20 +74,22 @@ fn take_apart(after: [[u64; 2]; 128], n: usize, bytes: &mut [u8], area: &mut [u8
         verdict: Verdict::Accepted(written.count, count, written.groups),
         forward,
         reverse,
+        hours: all,
     }
 }
 
 // The order of arcs that name jobs below n alone.
-pub fn of_arcs(list: &[u16], n: usize, bytes: &mut [u8], area: &mut [u8]) -> Analysis
+pub fn of_arcs(list: &[u16], n: usize, hours: &[u16], bytes: &mut [u8], area: &mut [u8]) -> Analysis
     requires { ⌜ (0 < n) × (n ≤ 128) ⌝ }
     requires { ⌜ Within n (pairs (now list)) ⌝ }
-    ensures { λ r. ⌜ Gives (ordered (rooms (now (bytes .entry)) (now (area .entry))) n (before n (pairs (now (list .entry)))))
+    requires { ⌜ (length (now hours) ≡ n) × AllBelow (2 ^ hoursBits) (now hours) ⌝ }
+    ensures { λ r. ⌜ Gives (ordered (rooms (now (bytes .entry)) (now (area .entry))) n (now (hours .entry)) (before n (pairs (now (list .entry)))))
         (now (bytes .entry)) (now (area .entry)) r (now (bytes .exit)) (now (area .exit)) ⌝ }
 {
     let after = order::closure(arcs::table_of(list), n);
     let circle = order::first_on_cycle(after, n);
     match circle {
         Found::At(u) => refused(Verdict::Cycle(u)),
-        Found::Nothing => take_apart(after, n, bytes, area),
+        Found::Nothing => take_apart(after, n, hours, bytes, area),
     }
 }

@@ -20,6 +20,7 @@ pub fn of_bytes(bytes: &[u8], area: &mut [u8]) -> Analysis
     }
     let forward = read.forward;
     let reverse = read.reverse;
+    let hours = read.hours;
     let after = ahead::order_of(&forward, &reverse, read.count);
     let reduced = reduction::reduced(after, read.count);
     let count = reduction::pair_count(&reduced, read.count);
@@ -31,5 +32,6 @@ pub fn of_bytes(bytes: &[u8], area: &mut [u8]) -> Analysis
         verdict: Verdict::Accepted(bytes.len(), count, read.groups),
         forward,
         reverse,
+        hours,
     }
 }

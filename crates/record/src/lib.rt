@@ -2,3 +2,6 @@
 
 // No record has more bytes.
 pub const RECORD_ROOM: usize = 464;
+
+// The most hours that a job may have.
+pub const MOST_HOURS: u16 = 4095;
