@@ -10,24 +10,24 @@ use Rattle.analysis.specs.declared.Analysis.{Analysis}
 use Rattle.analysis.specs.declared.Verdict.the-variants as verdict
 use Rattle.analysis.proofs.Crossing.{gives-refusal}
 
-abbrev afterCircle : Rooms → ℕ → Rel → Option ℕ → Outcome
-afterCircle rs n r (some u) = refuse 7 u 0 0 0
-afterCircle rs n r none = decomposed rs n r
+abbrev afterCircle : Rooms → ℕ → List ℕ → Rel → Option ℕ → Outcome
+afterCircle rs n hours r (some u) = refuse 7 u 0 0 0
+afterCircle rs n hours r none = decomposed rs n hours r
 
-ordered-is : (rs : Rooms) (n : ℕ) (r : Rel) → ordered rs n r ≡ afterCircle rs n r (firstOnCycle n r)
+ordered-is : (rs : Rooms) (n : ℕ) (hours : List ℕ) (r : Rel) → ordered rs n hours r ≡ afterCircle rs n hours r (firstOnCycle n r)
 unfolding ordered
-ordered-is rs n r = go (firstOnCycle n r)
+ordered-is rs n hours r = go (firstOnCycle n r)
   where
-    go : (o : Option ℕ) → elim o [ some u ↦ refuse 7 u 0 0 0 | none ↦ decomposed rs n r ] ≡ afterCircle rs n r o
+    go : (o : Option ℕ) → elim o [ some u ↦ refuse 7 u 0 0 0 | none ↦ decomposed rs n hours r ] ≡ afterCircle rs n hours r o
     go (some u) = refl
     go none = refl
 
-pub gives-circle : (rs : Rooms) (n : ℕ) (r : Rel) (u : ℕ) (bytes area : List ℕ) → firstOnCycle n r ≡ some u
-    → Gives (ordered rs n r) bytes area (refusal (verdict.Cycle u)) bytes area
-gives-circle rs n r u bytes area e =
-    gives-refusal (verdict.Cycle u) (ordered rs n r) bytes area 7 u 0 0 0 (ordered-is rs n r ∙ ap (afterCircle rs n r) e) refl
+pub gives-circle : (rs : Rooms) (n : ℕ) (hours : List ℕ) (r : Rel) (u : ℕ) (bytes area : List ℕ) → firstOnCycle n r ≡ some u
+    → Gives (ordered rs n hours r) bytes area (refusal (verdict.Cycle u)) bytes area
+gives-circle rs n hours r u bytes area e =
+    gives-refusal (verdict.Cycle u) (ordered rs n hours r) bytes area 7 u 0 0 0 (ordered-is rs n hours r ∙ ap (afterCircle rs n hours r) e) refl
 
 -- the outcome of the arcs is that of their closure
-pub no-circle : (rs : Rooms) (n : ℕ) (r s : Rel) → s ≡ r → firstOnCycle n s ≡ none → decomposed rs n s ≡ ordered rs n r
-no-circle rs n r s e f =
-    ap (decomposed rs n) e ∙ sym (ordered-is rs n r ∙ ap (afterCircle rs n r) (ap (firstOnCycle n) (sym e) ∙ f))
+pub no-circle : (rs : Rooms) (n : ℕ) (hours : List ℕ) (r s : Rel) → s ≡ r → firstOnCycle n s ≡ none → decomposed rs n hours s ≡ ordered rs n hours r
+no-circle rs n hours r s e f =
+    ap (decomposed rs n hours) e ∙ sym (ordered-is rs n hours r ∙ ap (afterCircle rs n hours r) (ap (firstOnCycle n) (sym e) ∙ f))

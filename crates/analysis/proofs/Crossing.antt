@@ -39,48 +39,49 @@ gives-refusal v o bytes area k a b c d e h =
       arcs-are = ap (λ (o : Outcome). overlay (arcBytes (o .arcs)) area) (sym e);
       forward-is = ap (λ (o : Outcome). padded (o .forward)) (sym e);
       reverse-is = ap (λ (o : Outcome). padded (o .reverse)) (sym e);
+      hours-is = ap (λ (o : Outcome). padded (o .hours)) (sym e);
     }
 
 -- the outcome, by what the search for an N and for a tree find
 
-abbrev afterN : Rooms → ℕ → Rel → Option Four → Option Tree → Outcome
-afterN rs n r (some q) o = refuse 8 (q .0) (q .1) (q .2) (q .3)
-afterN rs n r none (some t) = fitted rs (accept n r t)
-afterN rs n r none none = refuse 8 0 0 0 0
+abbrev afterN : Rooms → ℕ → List ℕ → Rel → Option Four → Option Tree → Outcome
+afterN rs n hours r (some q) o = refuse 8 (q .0) (q .1) (q .2) (q .3)
+afterN rs n hours r none (some t) = fitted rs (accept n hours r t)
+afterN rs n hours r none none = refuse 8 0 0 0 0
 
-decomposed-is : (rs : Rooms) (n : ℕ) (r : Rel) → decomposed rs n r ≡ afterN rs n r (firstN n r) (treeOf n r)
+decomposed-is : (rs : Rooms) (n : ℕ) (hours : List ℕ) (r : Rel) → decomposed rs n hours r ≡ afterN rs n hours r (firstN n r) (treeOf n r)
 unfolding decomposed
-decomposed-is rs n r = go (firstN n r) (treeOf n r)
+decomposed-is rs n hours r = go (firstN n r) (treeOf n r)
   where
     go : (a : Option Four) (b : Option Tree)
-        → elim a [ some q ↦ refuse 8 (q .0) (q .1) (q .2) (q .3) | none ↦ elim b [ some t ↦ fitted rs (accept n r t) | none ↦ refuse 8 0 0 0 0 ] ]
-        ≡ afterN rs n r a b
+        → elim a [ some q ↦ refuse 8 (q .0) (q .1) (q .2) (q .3) | none ↦ elim b [ some t ↦ fitted rs (accept n hours r t) | none ↦ refuse 8 0 0 0 0 ] ]
+        ≡ afterN rs n hours r a b
     go (some q) b = refl
     go none (some t) = refl
     go none none = refl
 
-by-n : (rs : Rooms) (n : ℕ) (r : Rel) (q : Four) → firstN n r ≡ some q → decomposed rs n r ≡ refuse 8 (q .0) (q .1) (q .2) (q .3)
-by-n rs n r q e = decomposed-is rs n r ∙ ap (λ a. afterN rs n r a (treeOf n r)) e
+by-n : (rs : Rooms) (n : ℕ) (hours : List ℕ) (r : Rel) (q : Four) → firstN n r ≡ some q → decomposed rs n hours r ≡ refuse 8 (q .0) (q .1) (q .2) (q .3)
+by-n rs n hours r q e = decomposed-is rs n hours r ∙ ap (λ a. afterN rs n hours r a (treeOf n r)) e
 
-by-none : (rs : Rooms) (n : ℕ) (r : Rel) → firstN n r ≡ none → treeOf n r ≡ none → decomposed rs n r ≡ refuse 8 0 0 0 0
-by-none rs n r e h = decomposed-is rs n r ∙ ap₂ (afterN rs n r) e h
+by-none : (rs : Rooms) (n : ℕ) (hours : List ℕ) (r : Rel) → firstN n r ≡ none → treeOf n r ≡ none → decomposed rs n hours r ≡ refuse 8 0 0 0 0
+by-none rs n hours r e h = decomposed-is rs n hours r ∙ ap₂ (afterN rs n hours r) e h
 
 -- an order that no tree means
-pub gives-crossed : (rs : Rooms) (n : ℕ) (r : Rel) (bytes area : List ℕ) → treeOf n r ≡ none
-    → Gives (decomposed rs n r) bytes area (crossedBy (firstN n r)) bytes area
+pub gives-crossed : (rs : Rooms) (n : ℕ) (hours : List ℕ) (r : Rel) (bytes area : List ℕ) → treeOf n r ≡ none
+    → Gives (decomposed rs n hours r) bytes area (crossedBy (firstN n r)) bytes area
 unfolding decomposed
-gives-crossed rs n r bytes area bare = go (firstN n r) refl
+gives-crossed rs n hours r bytes area bare = go (firstN n r) refl
   where
-    go : (o : Option Four) → firstN n r ≡ o → Gives (decomposed rs n r) bytes area (crossedBy (firstN n r)) bytes area
+    go : (o : Option Four) → firstN n r ≡ o → Gives (decomposed rs n hours r) bytes area (crossedBy (firstN n r)) bytes area
     go (some q) e =
-        subst (λ o. Gives (decomposed rs n r) bytes area (crossedBy o) bytes area) (sym e)
-        (gives-refusal (verdict.Crossed (q .0) (q .1) (q .2) (q .3)) (decomposed rs n r) bytes area 8 (q .0) (q .1) (q .2) (q .3) (by-n rs n r q e) refl)
+        subst (λ o. Gives (decomposed rs n hours r) bytes area (crossedBy o) bytes area) (sym e)
+        (gives-refusal (verdict.Crossed (q .0) (q .1) (q .2) (q .3)) (decomposed rs n hours r) bytes area 8 (q .0) (q .1) (q .2) (q .3) (by-n rs n hours r q e) refl)
     go none e =
-        subst (λ o. Gives (decomposed rs n r) bytes area (crossedBy o) bytes area) (sym e)
-        (gives-refusal (verdict.Crossed 0 0 0 0) (decomposed rs n r) bytes area 8 0 0 0 0 (by-none rs n r e bare) refl)
+        subst (λ o. Gives (decomposed rs n hours r) bytes area (crossedBy o) bytes area) (sym e)
+        (gives-refusal (verdict.Crossed 0 0 0 0) (decomposed rs n hours r) bytes area 8 0 0 0 0 (by-none rs n hours r e bare) refl)
 
 -- an order that a tree means
-pub tree-outcome : (rs : Rooms) (n : ℕ) (r : Rel) (t : Tree) → Strict n r → treeOf n r ≡ some t → decomposed rs n r ≡ fitted rs (accept n r t)
-tree-outcome rs n r t strict e =
-    decomposed-is rs n r
-    ∙ ap₂ (afterN rs n r) (first-n-none n r .1 (λ h. tree-has-no-n n r (t, tree-of-sound n r t strict e .0) h)) e
+pub tree-outcome : (rs : Rooms) (n : ℕ) (hours : List ℕ) (r : Rel) (t : Tree) → Strict n r → treeOf n r ≡ some t → decomposed rs n hours r ≡ fitted rs (accept n hours r t)
+tree-outcome rs n hours r t strict e =
+    decomposed-is rs n hours r
+    ∙ ap₂ (afterN rs n hours r) (first-n-none n r .1 (λ h. tree-has-no-n n r (t, tree-of-sound n r t strict e .0) h)) e

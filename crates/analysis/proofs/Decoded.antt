@@ -28,27 +28,31 @@ use Rattle.analysis.proofs.ReadBack.{record-some}
 -- what was read is of the tree that the bytes decode to
 pub record Decoded (bytes : List ℕ) (x : Reading) : Type 0 where
   pub tree : Tree
-  pub decodes : decode bytes ≡ some (x .count, tree)
-  pub spells : IsRecord bytes (x .count) tree
+  pub hours : List ℕ
+  pub decodes : decode bytes ≡ some (x .count, tree, hours)
+  pub spells : IsRecord bytes (x .count) tree hours
   pub groups-are : x .groups ≡ groups tree
   pub forward-is : x .forward ≡ padded (leaves tree)
   pub reverse-is : x .reverse ≡ padded (reversed tree)
+  pub hours-is : x .hours ≡ padded hours
 
 module _ (bytes : List ℕ) (x : Reading) where
   pub decoded : AllBelow 256 bytes → x ≡ reading (decode bytes) → x .ok ≡ true → Decoded bytes x
   decoded small reads ok = go (decode bytes) refl reads
     where
-      go : (o : Option (ℕ × Tree)) → decode bytes ≡ o → x ≡ reading o → Decoded bytes x
+      go : (o : Option (ℕ × Tree × List ℕ)) → decode bytes ≡ o → x ≡ reading o → Decoded bytes x
       go none e h = absurd (clash ok (ap (λ (r : Reading). r .ok) h))
-      go (some (n, t)) e h =
-          let same : decode bytes ≡ some (x .count, t) = e ∙ ap (λ (k : ℕ). some (k, t)) (sym (ap (λ (r : Reading). r .count) h)) in
+      go (some (n, t, hours)) e h =
+          let same : decode bytes ≡ some (x .count, t, hours) = e ∙ ap (λ (k : ℕ). some (k, t, hours)) (sym (ap (λ (r : Reading). r .count) h)) in
           record {
             tree = t;
+            hours = hours;
             decodes = same;
-            spells = layout-decode bytes (x .count) t small same;
+            spells = layout-decode bytes (x .count) t hours small same;
             groups-are = ap (λ (r : Reading). r .groups) h;
             forward-is = ap (λ (r : Reading). r .forward) h;
             reverse-is = ap (λ (r : Reading). r .reverse) h;
+            hours-is = ap (λ (r : Reading). r .hours) h;
           }
 
   pub gives-11 : (area : List ℕ) → x ≡ reading (decode bytes) → x .ok ≡ false
@@ -56,7 +60,7 @@ module _ (bytes : List ℕ) (x : Reading) where
   unfolding recordOutcome
   gives-11 area reads bad = go (decode bytes) refl reads
     where
-      go : (o : Option (ℕ × Tree)) → decode bytes ≡ o → x ≡ reading o
+      go : (o : Option (ℕ × Tree × List ℕ)) → decode bytes ≡ o → x ≡ reading o
           → Gives (recordOutcome (length area) bytes) [] area (refusal verdict.NoRecord) [] area
       go none e h = gives-refusal verdict.NoRecord (recordOutcome (length area) bytes) [] area 11 0 0 0 0 (rw (recordOutcome, e)) refl
       go (some y) e h = absurd (clash (ap (λ (r : Reading). r .ok) h) bad)
@@ -80,20 +84,20 @@ module _ (bytes : List ℕ) (x : Reading) where
         abbrev whole : Outcome
         whole = recordOutcome (length area) bytes
 
-        fitting : whole ≡ arcsFit (length area) (yielded (length bytes) [] (x .count) (holds after) (d .tree))
+        fitting : whole ≡ arcsFit (length area) (yielded (length bytes) [] (x .count) (d .hours) (holds after) (d .tree))
         unfolding readBack
         fitting =
-            record-some (length area) bytes (x .count) (d .tree) (d .decodes)
-            ∙ ap (λ (r : Rel). arcsFit (length area) (yielded (length bytes) [] (x .count) r (d .tree)))
+            record-some (length area) bytes (x .count) (d .tree) (d .hours) (d .decodes)
+            ∙ ap (λ (r : Rel). arcsFit (length area) (yielded (length bytes) [] (x .count) (d .hours) r (d .tree)))
             (sym (order-precedes (x .count) (d .tree) (d .spells .spans) _ _ (d .forward-is) (d .reverse-is) after held))
 
         pub back-10 : length area < 2 * count → Gives whole [] area (refusal verdict.ArcRoom) [] area
-        back-10 = gives-short (x .count) (holds after) (d .tree) (length bytes) [] red same count counts [] area whole fitting
+        back-10 = gives-short (x .count) (d .hours) (holds after) (d .tree) (length bytes) [] red same count counts [] area whole fitting
 
         pub back-0 : 2 * count ≤ length area → (area′ : List ℕ) → area′ ≡ overlay (arcBytes (pairsOf (x .count) (holds red))) area
             → Gives whole [] area
-            (record { verdict = verdict.Accepted (length bytes) count (x .groups); forward = x .forward; reverse = x .reverse }) [] area′
+            (record { verdict = verdict.Accepted (length bytes) count (x .groups); forward = x .forward; reverse = x .reverse; hours = x .hours }) [] area′
         unfolding overlay
         back-0 l area′ listed =
-            gives-long (x .count) (holds after) (d .tree) (length bytes) [] red same count counts [] area whole fitting l _ _ _ [] area′
-            (d .groups-are) (d .forward-is) (d .reverse-is) refl listed
+            gives-long (x .count) (d .hours) (holds after) (d .tree) (length bytes) [] red same count counts [] area whole fitting l _ _ _ _ [] area′
+            (d .groups-are) (d .forward-is) (d .reverse-is) (d .hours-is) refl listed

@@ -1,18 +1,20 @@
--- What is known of the list after a sheet is read.
+-- What is known of the lists after a sheet is read.
 use Prim.Native.Nat.{ℕ, _*_, _/_, _≤_}
 use mathlib.Core.Path.{_≡_, refl, sym, ap, _∙_}
 use mathlib.Core.List.{List}
 use mathlib.Core.Bool.{Bool, true, false}
 use native.Mathlib.Omega.{arith}
-use lib.ListN.{length, take}
+use lib.ListN.{length, take, replicate}
 use Rattle.poset.specs.Areas.{arcBytes}
 use Rattle.poset.specs.Order.{Arc}
 use Rattle.poset.proofs.Laws.{clash}
-use Rattle.sheet.specs.Scan.{Read, sheet, broken}
-use Rattle.sheet.specs.Listing.{listing, resultOf, arcsOf, Answers}
+use Rattle.sheet.specs.Text.{LineForm}
+use Rattle.sheet.specs.Scan.{Read, sheet, broken, scan}
+use Rattle.sheet.specs.Listing.{hoursListing, listing, resultOf, hoursIn, arcsOf, Answers}
 use Rattle.sheet.specs.declared.SheetRead.{SheetRead}
 use Rattle.sheet.specs.declared.SheetRead.the-variants.{Sheet, Broken}
-use Rattle.sheet.proofs.Listing.{listing-length, listing-front}
+use Rattle.sheet.proofs.Listing.{hours-length, hours-front, listing-length, listing-front}
+use Rattle.sheet.proofs.Theorems.{scan-sheet}
 
 abbrev isSheet : SheetRead → Bool
 isSheet (Sheet n k) = true
@@ -26,32 +28,48 @@ abbrev arcCount : SheetRead → ℕ
 arcCount (Sheet n k) = k
 arcCount (Broken p) = 0
 
--- the arcs of a sheet that is read, and where they are
-pub record ArcsRead (x : Read) (n count : ℕ) (list : List ℕ) : Type 0 where
+-- the hours and the arcs of a sheet that is read, and where they are
+pub record SheetLists (s : List ℕ) (n count : ℕ) (times list : List ℕ) : Type 0 where
+  pub hours : List ℕ
   pub arcs : List Arc
-  pub read-is : x ≡ sheet n arcs
+  pub read-is : scan s ≡ sheet n hours arcs
   pub size : length arcs ≡ count
+  pub hours-front : n ≤ 128 → take n times ≡ hours
   pub front : count ≤ 4096 → take (2 * count) list ≡ arcBytes arcs
 
-pub arcs-read : (x : Read) (held list : List ℕ) (r : SheetRead) (n count : ℕ) → Answers x held r list → r ≡ Sheet n count → length held ≡ 8192
-    → ArcsRead x n count list
-unfolding resultOf arcsOf
-arcs-read (sheet m arcs) held list r n count a e size =
-    let same = sym e ∙ a .result in
-    let long : count ≡ length arcs = ap arcCount same in
-    record {
-      arcs = arcs;
-      read-is = ap (λ k. sheet k arcs) (sym (ap jobs same));
-      size = sym long;
-      front =
-          λ few. ap (λ k. take (2 * k) list) long ∙ ap (take (2 * length arcs)) (a .listed) ∙ listing-front arcs held (omega (arith, long, size));
-    }
-arcs-read (broken p arcs) held list r n count a e size = absurd (clash (ap isSheet e) (ap isSheet (a .result)))
+-- what a read of a sheet leaves in a list for 128 jobs and in one for 4,096 arcs
+module _ (s held-hours held : List ℕ) (r : SheetRead) (times list : List ℕ) (a : Answers (scan s) held-hours held r times list) where
+  pub sheet-lists : (n count : ℕ) → r ≡ Sheet n count → length held-hours ≡ 128 → length held ≡ 8192 → SheetLists s n count times list
+  unfolding resultOf hoursIn arcsOf
+  sheet-lists n count e room size = go (scan s) refl a
+    where
+      go : (x : Read) → scan s ≡ x → Answers x held-hours held r times list → SheetLists s n count times list
+      go (broken p hours arcs) is b = absurd (clash (ap isSheet e) (ap isSheet (b .result)))
+      go (sheet m hours arcs) is b =
+          let same = sym e ∙ b .result in
+          let long : count ≡ length arcs = ap arcCount same in
+          let jobs-are : m ≡ n = sym (ap jobs same) in
+          let read : scan s ≡ sheet n hours arcs = is ∙ ap (λ k. sheet k hours arcs) jobs-are in
+          let each : length hours ≡ n = scan-sheet s n hours arcs .0 read .jobs in
+          record {
+            hours = hours;
+            arcs = arcs;
+            read-is = read;
+            size = sym long;
+            hours-front = λ few. ap (take n) (b .hours-listed) ∙ ap (λ k. take k (hoursListing hours held-hours)) (sym each) ∙ hours-front hours held-hours (omega arith);
+            front = λ few. ap (λ k. take (2 * k) list) long ∙ ap (take (2 * length arcs)) (b .listed) ∙ listing-front arcs held (omega (arith, long, size));
+          }
 
-pub broken-read : (x : Read) (held list : List ℕ) (r : SheetRead) (p : ℕ) → Answers x held r list → r ≡ Broken p → x ≡ broken p (arcsOf x)
-unfolding resultOf arcsOf
-broken-read (sheet m arcs) held list r p a e = absurd (clash (ap isSheet (a .result)) (ap isSheet e))
-broken-read (broken q arcs) held list r p a e = ap (λ k. broken k arcs) (ap jobs (sym (a .result) ∙ e))
+  pub broken-read : (p : ℕ) → r ≡ Broken p → scan s ≡ broken p (hoursIn (scan s)) (arcsOf (scan s))
+  unfolding resultOf hoursIn arcsOf
+  broken-read p e = go (scan s) a
+    where
+      go : (x : Read) → Answers x held-hours held r times list → x ≡ broken p (hoursIn x) (arcsOf x)
+      go (sheet m hours arcs) b = absurd (clash (ap isSheet (b .result)) (ap isSheet e))
+      go (broken q hours arcs) b = ap (λ k. broken k hours arcs) (ap jobs (sym (b .result) ∙ e))
 
-pub list-length : (x : Read) (held list : List ℕ) (r : SheetRead) → Answers x held r list → length list ≡ length held
-list-length x held list r a = ap length (a .listed) ∙ listing-length (arcsOf x) held
+  pub hours-long : length times ≡ length held-hours
+  hours-long = ap length (a .hours-listed) ∙ hours-length (hoursIn (scan s)) held-hours
+
+  pub list-long : length list ≡ length held
+  list-long = ap length (a .listed) ∙ listing-length (arcsOf (scan s)) held

@@ -57,76 +57,79 @@ module _ (bytes area : List ℕ) (o : Outcome) where
       false-unless (ltb (length area) (2 * length (o .arcs))) (λ h. omega (arith, ltb-true (length area) (2 * length (o .arcs)) h)) in
       rw (arcsFit, no-more)
 
--- what an order yields: a record of so many bytes, those of it that are written, the reduction and the sequences
-abbrev pub yielded : ℕ → List ℕ → ℕ → Rel → Tree → Outcome
-yielded size written n r t =
+-- what an order yields: a record of so many bytes, those of it that are written, the reduction, the sequences and the hours
+abbrev pub yielded : ℕ → List ℕ → ℕ → List ℕ → Rel → Tree → Outcome
+yielded size written n hours r t =
     record {
       verdict = answer 0 size (length (reduction n r)) (groups t) 0;
       bytes = written;
       arcs = reduction n r;
       forward = leaves t;
       reverse = reversed t;
+      hours = hours;
     }
 
 -- and what a call hands back of it, where the area has room for the reduced orders or not
-module _ (n : ℕ) (r : Rel) (t : Tree) (size : ℕ) (written : List ℕ)
+module _ (n : ℕ) (hours : List ℕ) (r : Rel) (t : Tree) (size : ℕ) (written : List ℕ)
     (red : List (List ℕ)) (same : (u v : ℕ) → holds red u v ≡ covers n r u v) (count : ℕ) (counts : count ≡ length (pairsOf n (holds red)))
-    (bytes area : List ℕ) (whole : Outcome) (fits : whole ≡ arcsFit (length area) (yielded size written n r t)) where
+    (bytes area : List ℕ) (whole : Outcome) (fits : whole ≡ arcsFit (length area) (yielded size written n hours r t)) where
   arcs-length : length (reduction n r) ≡ count
   arcs-length = ap length (sym (reduced-pairs n r red same)) ∙ sym counts
 
   pub gives-short : length area < 2 * count → Gives whole bytes area (refusal verdict.ArcRoom) bytes area
   gives-short l =
       gives-refusal verdict.ArcRoom whole bytes area 10 0 0 0 0
-      (fits ∙ short-arcs bytes area (yielded size written n r t) (omega (arith, arcs-length))) refl
+      (fits ∙ short-arcs bytes area (yielded size written n hours r t) (omega (arith, arcs-length))) refl
 
-  pub gives-long : 2 * count ≤ length area → (k : ℕ) (forward reverse bytes′ area′ : List ℕ) → k ≡ groups t → forward ≡ padded (leaves t)
-      → reverse ≡ padded (reversed t) → bytes′ ≡ overlay written bytes → area′ ≡ overlay (arcBytes (pairsOf n (holds red))) area
-      → Gives whole bytes area (record { verdict = verdict.Accepted size count k; forward = forward; reverse = reverse }) bytes′ area′
-  gives-long l k forward reverse bytes′ area′ number forth back spelt listed =
-      gives-same (sym (fits ∙ long-arcs bytes area (yielded size written n r t) (omega (arith, arcs-length))))
+  pub gives-long : 2 * count ≤ length area → (k : ℕ) (forward reverse all bytes′ area′ : List ℕ) → k ≡ groups t → forward ≡ padded (leaves t)
+      → reverse ≡ padded (reversed t) → all ≡ padded hours → bytes′ ≡ overlay written bytes → area′ ≡ overlay (arcBytes (pairsOf n (holds red))) area
+      → Gives whole bytes area (record { verdict = verdict.Accepted size count k; forward = forward; reverse = reverse; hours = all }) bytes′ area′
+  gives-long l k forward reverse all bytes′ area′ number forth back times spelt listed =
+      gives-same (sym (fits ∙ long-arcs bytes area (yielded size written n hours r t) (omega (arith, arcs-length))))
       (record {
         answers = ap₂ (λ (c g : ℕ). answer 0 size c g 0) (sym arcs-length) number;
         record-is = spelt;
         arcs-are = listed ∙ ap (λ l. overlay (arcBytes l) area) (reduced-pairs n r red same);
         forward-is = forth;
         reverse-is = back;
+        hours-is = times;
       })
 
 -- an order taken apart
-module _ (n : ℕ) (few : n ≤ 128) (r : Rel) (strict : Strict n r) (t : Tree) (e : treeOf n r ≡ some t) (w : Written) (is : w ≡ written n (some t))
+module _ (n : ℕ) (few : n ≤ 128) (hours : List ℕ) (r : Rel) (strict : Strict n r) (t : Tree) (e : treeOf n r ≡ some t)
+    (w : Written) (is : w ≡ written n hours (some t))
     (red : List (List ℕ)) (same : (u v : ℕ) → holds red u v ≡ covers n r u v) (count : ℕ) (counts : count ≡ length (pairsOf n (holds red)))
     (bytes area : List ℕ) where
   abbrev whole : Outcome
-  whole = decomposed (rooms bytes area) n r
+  whole = decomposed (rooms bytes area) n hours r
 
-  record-length : length (layout n t) ≡ w .count
-  record-length = sym (bytes-count n few r strict t e w is)
+  record-length : length (layout n hours t) ≡ w .count
+  record-length = sym (bytes-count n few r strict t e hours w is)
 
-  accepted : whole ≡ fitted (rooms bytes area) (accept n r t)
-  accepted = tree-outcome (rooms bytes area) n r t strict e
+  accepted : whole ≡ fitted (rooms bytes area) (accept n hours r t)
+  accepted = tree-outcome (rooms bytes area) n hours r t strict e
 
-  fitting : w .count ≤ length bytes → whole ≡ arcsFit (length area) (yielded (w .count) (layout n t) n r t)
+  fitting : w .count ≤ length bytes → whole ≡ arcsFit (length area) (yielded (w .count) (layout n hours t) n hours r t)
   unfolding accept
   fitting l =
       accepted
-      ∙ long-record bytes area (accept n r t) (omega (arith, record-length))
-      ∙ ap (λ (k : ℕ). arcsFit (length area) (yielded k (layout n t) n r t)) record-length
+      ∙ long-record bytes area (accept n hours r t) (omega (arith, record-length))
+      ∙ ap (λ (k : ℕ). arcsFit (length area) (yielded k (layout n hours t) n hours r t)) record-length
 
   pub gives-9 : length bytes < w .count → Gives whole bytes area (refusal verdict.RecordRoom) bytes area
   unfolding accept
   gives-9 l =
       gives-refusal verdict.RecordRoom whole bytes area 9 0 0 0 0
-      (accepted ∙ short-record bytes area (accept n r t) (omega (arith, record-length))) refl
+      (accepted ∙ short-record bytes area (accept n hours r t) (omega (arith, record-length))) refl
 
   pub gives-10 : w .count ≤ length bytes → length area < 2 * count → Gives whole bytes area (refusal verdict.ArcRoom) bytes area
-  gives-10 l = gives-short n r t (w .count) (layout n t) red same count counts bytes area whole (fitting l)
+  gives-10 l = gives-short n hours r t (w .count) (layout n hours t) red same count counts bytes area whole (fitting l)
 
-  pub gives-0 : w .count ≤ length bytes → 2 * count ≤ length area → (bytes′ area′ : List ℕ) → bytes′ ≡ overlay (take (w .count) (w .bytes)) bytes
+  pub gives-0 : w .count ≤ length bytes → 2 * count ≤ length area → (all bytes′ area′ : List ℕ) → all ≡ padded hours → bytes′ ≡ overlay (take (w .count) (w .bytes)) bytes
       → area′ ≡ overlay (arcBytes (pairsOf n (holds red))) area
       → Gives whole bytes area
-      (record { verdict = verdict.Accepted (w .count) count (w .groups); forward = w .forward; reverse = w .reverse }) bytes′ area′
-  gives-0 l m bytes′ area′ eb ea =
-      gives-long n r t (w .count) (layout n t) red same count counts bytes area whole (fitting l) m _ _ _ bytes′ area′
-      (ap (λ (w : Written). w .groups) is) (ap (λ (w : Written). w .forward) is) (ap (λ (w : Written). w .reverse) is)
-      (eb ∙ ap (λ l. overlay l bytes) (bytes-are n few r strict t e w is)) ea
+      (record { verdict = verdict.Accepted (w .count) count (w .groups); forward = w .forward; reverse = w .reverse; hours = all }) bytes′ area′
+  gives-0 l m all bytes′ area′ times eb ea =
+      gives-long n hours r t (w .count) (layout n hours t) red same count counts bytes area whole (fitting l) m _ _ _ all bytes′ area′
+      (ap (λ (w : Written). w .groups) is) (ap (λ (w : Written). w .forward) is) (ap (λ (w : Written). w .reverse) is) times
+      (eb ∙ ap (λ l. overlay l bytes) (bytes-are n few r strict t e hours w is)) ea
