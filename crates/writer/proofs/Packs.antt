@@ -38,46 +38,23 @@ stored-low : (bytes : List ℕ) (at b : ℕ) → at < length bytes → b < 256 �
 stored-low bytes at b h small low =
     subst (AllBelow 256) (sym (stored bytes at b h)) (below-append low (below-cons small below-nil))
 
-pub one-shifted : {have : ℕ} → have < 8 → 1 * 2 ^ have % 2 ^ 64 ≡ 2 ^ have
-one-shifted {have} h = shl-exact {a = 1} 1 have 64 (omega arith) (omega arith) ∙ one-mul (2 ^ have)
-
--- the bits in hand and a field after them
-module _ (have value width field : ℕ) (small : value < 2 ^ have) (fits : field < 2 ^ width) where
-  abbrev joined : ℕ
-  joined = value * 2 ^ width + field
-
-  pub joined-small : joined < 2 ^ (have + width)
-  joined-small = subst (λ m. joined < m) (sym (pow-add 2 have width)) (digits-lt small fits)
-
-  joined-bits : bits have value ++ bits width field ≡ bits (have + width) joined
-  joined-bits = sym (bits-append have width value field fits)
-
-  -- where they complete a byte
-  module _ (rest : ℕ) (e : have + width ≡ 8 + rest) where
-    high-small : joined / 2 ^ rest < 256
-    high-small = shr-lt 8 rest (subst (λ k. joined < 2 ^ k) e joined-small)
-
-    byte-bits : bits have value ++ bits width field ≡ bits 8 (joined / 2 ^ rest % 256) ++ bits rest (joined % 2 ^ rest)
-    byte-bits =
-        joined-bits
-        ∙ ap₂ bits e (sym (split joined rest))
-        ∙ bits-append 8 rest (joined / 2 ^ rest) (joined % 2 ^ rest) (mod-lt joined (pow-pos rest))
-        ∙ ap (λ b. bits 8 b ++ bits rest (joined % 2 ^ rest)) (sym (mod-eq-of-lt high-small))
-
 -- a field of at most 8 bits more
 module _ (bytes : List ℕ) (p : Packing) (width field : ℕ) (ready : Ready p width) (narrow : width ≤ 8) (fits : field < 2 ^ width) where
   abbrev value : ℕ
   value = p .value * 2 ^ width % 2 ^ 64 + field
 
   -- nothing is shifted out
-  is : value ≡ joined (p .have) (p .value) width field (ready .small) fits
+  is : value ≡ p .value * 2 ^ width + field
   is = ap (λ v. v + field) (shl-exact (p .have) width 64 (ready .small) (omega (arith, ready .few)))
 
   value-small : value < 2 ^ (p .have + width)
-  value-small = subst (λ v. v < 2 ^ (p .have + width)) (sym is) (joined-small (p .have) (p .value) width field (ready .small) fits)
+  value-small = rw (is, pow-add 2 (p .have) width) (digits-lt (ready .small) fits)
 
   pub value-fits : value < 2 ^ 64
   value-fits = omega (arith, value-small, pow-mono {i = p .have + width} {j = 16} (omega (arith, ready .few)))
+
+  value-bits : bits (p .have) (p .value) ++ bits width field ≡ bits (p .have + width) value
+  value-bits = sym (bits-append (p .have) width (p .value) field fits) ∙ ap (bits (p .have + width)) (sym is)
 
   abbrev whole : List ℕ
   whole = bitsOf (take (p .at) bytes)
@@ -97,9 +74,7 @@ module _ (bytes : List ℕ) (p : Packing) (width field : ℕ) (ready : Ready p w
           low = h .low;
           blank = h .blank;
           these =
-              more-held bs h
-              ∙ ap (λ l. whole ++ l) (joined-bits (p .have) (p .value) width field (ready .small) fits)
-              ∙ ap (λ v. whole ++ bits (p .have + width) v) (sym is);
+              more-held bs h ∙ ap (λ l. whole ++ l) value-bits;
         };
         left = λ more r. record { room = omega (arith, r .room, length-bits width field); few = few; small = value-small };
       }
@@ -116,15 +91,19 @@ module _ (bytes : List ℕ) (p : Packing) (width field : ℕ) (ready : Ready p w
     low = value % (1 * 2 ^ rest % 2 ^ 64)
 
     pub power : 1 * 2 ^ rest % 2 ^ 64 ≡ 2 ^ rest
-    power = one-shifted (omega (arith, ready .few))
+    power = shl-exact {a = 1} 1 rest 64 (omega arith) (omega (arith, ready .few)) ∙ one-mul (2 ^ rest)
 
     low-small : low < 2 ^ rest
     low-small = rw power (mod-lt value (pow-pos rest))
 
     spelt : bits (p .have) (p .value) ++ bits width field ≡ bits 8 byte ++ bits rest low
     spelt =
-        byte-bits (p .have) (p .value) width field (ready .small) fits rest (omega arith)
-        ∙ ap₂ (λ v k. bits 8 (v / 2 ^ rest % 256) ++ bits rest (v % k)) (sym is) (sym power)
+        let e : p .have + width ≡ 8 + rest = omega arith in
+        let high : byte ≡ value / 2 ^ rest = mod-eq-of-lt (shr-lt 8 rest (subst (λ k. value < 2 ^ k) e value-small)) in
+        value-bits
+        ∙ ap₂ bits e (sym (split value rest))
+        ∙ bits-append 8 rest (value / 2 ^ rest) (value % 2 ^ rest) (mod-lt value (pow-pos rest))
+        ∙ ap₂ (λ b m. bits 8 b ++ bits rest (value % m)) (sym high) (sym power)
 
     room-for-byte : p .at < recordRoom
     room-for-byte = omega (arith, ready .room)
@@ -155,7 +134,8 @@ pub less : (p : Packing) {k more : ℕ} → Ready p k → more ≤ k → Ready p
 less p h l = record { room = omega (arith, h .room); few = h .few; small = h .small }
 
 -- bits and then others
-pub puts-both : {xs ys bytes bytes′ bytes″ : List ℕ} {p q r : Packing} → Puts xs bytes p bytes′ q → Puts ys bytes′ q bytes″ r → Puts (xs ++ ys) bytes p bytes″ r
+pub puts-both : {xs ys bytes bytes′ bytes″ : List ℕ} {p q r : Packing} → Puts xs bytes p bytes′ q → Puts ys bytes′ q bytes″ r
+    → Puts (xs ++ ys) bytes p bytes″ r
 puts-both {xs} {ys} {bytes″ = bytes″} {p = p} {r = r} one two =
     record {
       held = λ bs h. subst (λ l. Holds l bytes″ r) (append-assoc bs xs ys) (two .held (bs ++ xs) (one .held bs h));
@@ -163,12 +143,13 @@ puts-both {xs} {ys} {bytes″ = bytes″} {p = p} {r = r} one two =
     }
 
 -- the room left after so many bits
-pub room-left : {bytes bytes′ : List ℕ} {p q : Packing} (width field more : ℕ) → Puts (bits width field) bytes p bytes′ q → Ready p (width + more) → Ready q more
+pub room-left : {bytes bytes′ : List ℕ} {p q : Packing} (width field more : ℕ) → Puts (bits width field) bytes p bytes′ q
+    → Ready p (width + more) → Ready q more
 room-left {p = p} width field more h r = h .left more (less p r (omega (arith, length-bits width field)))
 
 -- hours are a byte and four bits
-pub hours-bits : (h : ℕ) → h < 2 ^ hoursBits → bits 8 (h / 16) ++ bits 4 (h % 16) ≡ bits hoursBits h
-hours-bits h l = sym (bits-append 8 4 (h / 16) (h % 16) (omega arith)) ∙ ap (bits hoursBits) (split h 4)
+pub hours-bits : (h : ℕ) → bits 8 (h / 16) ++ bits 4 (h % 16) ≡ bits hoursBits h
+hours-bits h = sym (bits-append 8 4 (h / 16) (h % 16) (omega arith)) ∙ ap (bits hoursBits) (split h 4)
 
 -- a field is a leaf and its hours, or a 1 and a byte
 module _ (hours : List ℕ) (x : ℕ) where

@@ -152,4 +152,5 @@ module _ (n : ℕ) (few : n ≤ 128) (r : Rel) (strict : Strict n r) (t : Tree) 
 
     pub bytes-are : take (w .count) (w .bytes) ≡ layout n hours t
     bytes-are =
-        ap (λ (w : Written). take (w .count) (w .bytes)) is ∙ take-at (layout n hours t) (replicate (recordRoom - length (layout n hours t)) 0) (length (layout n hours t)) refl
+        ap (λ (w : Written). take (w .count) (w .bytes)) is
+        ∙ take-at (layout n hours t) (replicate (recordRoom - length (layout n hours t)) 0) (length (layout n hours t)) refl

@@ -18,7 +18,7 @@ use Rattle.record.proofs.Below.{below-nil, below-cons}
 use Rattle.relation_bench.specs.Steps.{fits, acyclic}
 use Rattle.writer.specs.Written.{written}
 use Rattle.writer.proofs.Spelling.{bytes-few}
-use Rattle.writer_bench.specs.Rounds.{noHours, bytesWritten}
+use Rattle.writer_bench.specs.Rounds.{alike, bytesWritten}
 
 -- i rounds of k bytes
 pub record Summed (k rounds sum i : ℕ) : Type 0 where
@@ -42,13 +42,13 @@ record-few n hours few r strict =
     (λ e. omega (arith, ap (λ o. written n hours o .count) e))
     (found-or-none (treeOf n r))
 
--- all hours are small
-pub no-hours : AllBelow (2 ^ hoursBits) noHours
-no-hours = zeros 128
+-- such hours are small
+pub alike-below : (n : ℕ) → n ≤ 128 → AllBelow (2 ^ hoursBits) (alike n)
+alike-below n few = each 128
   where
-    zeros : (k : ℕ) → AllBelow (2 ^ hoursBits) (replicate k 0)
-    zeros zero = below-nil
-    zeros (suc k) = below-cons (omega arith) (zeros k)
+    each : (k : ℕ) → AllBelow (2 ^ hoursBits) (replicate k n)
+    each zero = below-nil
+    each (suc k) = below-cons (omega arith) (each k)
 
 module _ (rounds n : ℕ) (arcs : List Arc) where
   pub no-job : n < 1 → 0 ≡ bytesWritten rounds n arcs
@@ -70,6 +70,6 @@ module _ (rounds n : ℕ) (arcs : List Arc) where
         unfolding bytesWritten
         cyclic a = rw (le-leb 1 n one, le-leb rounds 1000000 few, f, a, bytesWritten)
 
-        pub all-written : acyclic n (before n arcs) ≡ true → rounds * (written n noHours (treeOf n (before n arcs)) .count) ≡ bytesWritten rounds n arcs
+        pub all-written : acyclic n (before n arcs) ≡ true → rounds * (written n (alike n) (treeOf n (before n arcs)) .count) ≡ bytesWritten rounds n arcs
         unfolding bytesWritten
         all-written a = rw (le-leb 1 n one, le-leb rounds 1000000 few, f, a, bytesWritten)

@@ -37,7 +37,7 @@ fn repeated(
     sum
 }
 
-// The record of the arcs' order with no hours, written so many times over: its bytes in all. At most a million rounds, and one job at least.
+// The record of the arcs' order, each of the n jobs with n hours, written so many times over: its bytes in all. At most a million rounds, and one job at least.
 #[no_mangle]
 pub extern "C" fn bench_write(arcs: &[u16], n: u16, rounds: usize) -> usize
     ensures { λ r. ⌜ r ≡ bytesWritten rounds n (pairs (now (arcs .entry))) ⌝ }
@@ -57,6 +57,6 @@ pub extern "C" fn bench_write(arcs: &[u16], n: u16, rounds: usize) -> usize
         return 0;
     }
     let under = order::transposed(after, jobs);
-    let hours = [0; 128];
+    let hours = [n; 128];
     repeated(after, &under, jobs, &hours, rounds)
 }

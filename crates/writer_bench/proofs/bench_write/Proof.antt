@@ -13,8 +13,8 @@ use Rattle.relation.specs.Arcs.{pairs}
 use Rattle.relation_bench.specs.Steps.{fits, acyclic}
 use Rattle.relation_bench.proofs.Refusals.{fits-within, acyclic-strict}
 use Rattle.writer.specs.Written.{written}
-use Rattle.writer_bench.specs.Rounds.{noHours}
-use Rattle.writer_bench.proofs.Sums.{no-job, many-rounds, unfit, cyclic, all-written, no-hours}
+use Rattle.writer_bench.specs.Rounds.{alike}
+use Rattle.writer_bench.proofs.Sums.{no-job, many-rounds, unfit, cyclic, all-written, alike-below}
 use Rattle.writer_bench.proofs.bench_write.Statement.{statement}
 use Rattle.writer_bench.proofs.bench_write.Tie as tie
 
@@ -95,7 +95,10 @@ repeated-requires c κs =
     let w = was look in
     let e = closure look .closed .ensures in (
       (omega (arith, one w), small w, few w),
-      (rw (e .0) (acyclic-strict (n w) (given w) (order (c .before .before .before))), (e .1, (c .before .before .transposed .ensures, no-hours))),
+      (
+        rw (e .0) (acyclic-strict (n w) (given w) (order (c .before .before .before))),
+        (e .1, (c .before .before .transposed .ensures, alike-below (n w) (small w))),
+      ),
     )
 
 returns-5 : tie.Need-returns-5
@@ -103,7 +106,7 @@ returns-5 c =
     let look = c .before .before .before .before .before in
     let w = was look in
     c .repeated .ensures
-    ∙ ap (λ r. start w .args .rounds * (written (n w) noHours (treeOf (n w) r) .count)) (closure look .closed .ensures .0)
+    ∙ ap (λ r. start w .args .rounds * (written (n w) (alike (n w)) (treeOf (n w) r) .count)) (closure look .closed .ensures .0)
     ∙ all-written (start w .args .rounds) (n w) (given w) (one w) (few w) (fit w) (order (c .before .before .before .before))
 
 pub bench-write-spec : {M : Type 1} → statement M

@@ -35,7 +35,8 @@ put-field-requires c κs =
     let l = c .before .before .before .before .loop in
     let hours = s .args .hours .now in (
       subst (λ x. Ready (l .p) (length (fieldBits hours x))) (sym (c .wide .ensures))
-          (ready-for-field (s .args .n) hours (s .args .fields .now) (l .bytes) (l .p) (l .i) (l .inv) (s .pre .1 .0) (c .before .before .before .loop-test .taken)),
+          (ready-for-field (s .args .n) hours (s .args .fields .now) (l .bytes) (l .p) (l .i) (l .inv) (s .pre .1 .0)
+          (c .before .before .before .loop-test .taken)),
       s .pre .1 .1,
     )
 

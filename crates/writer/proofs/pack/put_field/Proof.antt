@@ -1,7 +1,7 @@
 -- `pack::put_field`: a leaf with its hours, or a 1 and a byte.
 use borrow.Author.Needs.{needs}
 use native.Mathlib.Omega.{arith}
-use Prim.Native.Nat.{_^_}
+use Prim.Native.Nat.{_^_, _<_}
 use mathlib.Core.List.{_++_}
 use mathlib.Core.Path.{ap, sym, subst, _∙_}
 use Rattle.record.specs.Bits.{bits}
@@ -27,7 +27,7 @@ put-leaf-requires c κs =
     let leaf = c .before .before .before .if1 .taken in
     let hours = s .args .hours .now in (
       less (s .args .p) (s .pre .0) (omega (arith, leaf-length hours (s .args .field) leaf)),
-      (omega arith, omega (arith, c .wide .ensures, entry-below hours (s .args .field) (2 ^ hoursBits) (omega arith) (s .pre .1))),
+      (omega arith, subst (λ h. h < 2 ^ hoursBits) (sym (c .wide .ensures)) (entry-below hours _ (2 ^ hoursBits) (omega arith) (s .pre .1))),
     )
 
 -- a group has 9 bits

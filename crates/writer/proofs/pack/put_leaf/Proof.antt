@@ -31,7 +31,7 @@ returns : tie.Need-returns
 returns c =
     let s = c .before .before .before .before .before .before in
     subst (λ l. Puts (bits 8 (s .args .job) ++ l) (s .args .bytes .now) (s .args .p) (c .put-bits3 .last .0) (c .put-bits3 .result))
-    (hours-bits (s .args .hours) (s .pre .1 .1))
+    (hours-bits (s .args .hours))
     (puts-both (c .before .before .before .before .put-bits .ensures) (puts-both (c .before .before .put-bits2 .ensures) (c .put-bits3 .ensures)))
 
 pub put-leaf-spec : {M : Type 1} → statement M
