@@ -309,6 +309,14 @@ module _ (n : ℕ) (few : n ≤ 128) (r tied free : Rel) (a : Arrays) (p : Progr
       (omega (arith, long)) qc qg qp fields
       (ef ∙ ap (λ k. set (a .fields) (p .count) (groupField (top-of .series) (k - 1))) (sym long))
 
+-- zeros after some zeros
+pub drop-replicate : (i m : ℕ) → drop {A = ℕ} i (replicate m 0) ≡ replicate (m - i) 0
+drop-replicate zero m = let e : m ≡ m - 0 = omega arith in ap (λ k. replicate {A = ℕ} k 0) e
+drop-replicate (suc i) zero = let e : 0 ≡ 0 - suc i = omega arith in ap (λ k. replicate {A = ℕ} k 0) e
+drop-replicate (suc i) (suc m) =
+    let e : m - i ≡ suc m - suc i = omega arith in
+    drop-replicate i m ∙ ap (λ k. replicate {A = ℕ} k 0) e
+
 -- all jobs on the stack: nothing is written
 pub shape-start : (n : ℕ) → n ≤ 128 → (r tied free : Rel) (all : List ℕ) (flag : Bool) → members all ≡ below n
     → EntryOk n tied free (record { set = all; start = 0; series = flag }) → (a : Arrays) → Stacks (a .stack) (a .starts) (a .kinds) (a .sizes) 1
@@ -341,13 +349,6 @@ shape-start n few r tied free all flag is-all ok a z at start kind fields forwar
           (turn (sym is-all) (λ b. Todo n r [] [] (a .reverse) 0 (record { block = b; start = 0 } ∷ []))
           (todo-all n r (a .reverse) (omega (arith, long)))))));
     }
-  where
-    drop-replicate : (i m : ℕ) → drop {A = ℕ} i (replicate m 0) ≡ replicate (m - i) 0
-    drop-replicate zero m = let e : m ≡ m - 0 = omega arith in ap (λ k. replicate {A = ℕ} k 0) e
-    drop-replicate (suc i) zero = let e : 0 ≡ 0 - suc i = omega arith in ap (λ k. replicate {A = ℕ} k 0) e
-    drop-replicate (suc i) (suc m) =
-        let e : m - i ≡ suc m - suc i = omega arith in
-        drop-replicate i m ∙ ap (λ k. replicate {A = ℕ} k 0) e
 
 -- nothing is left on the stack: the tree is written
 pub shape-done : (n : ℕ) → n ≤ 128 → (r tied free : Rel) → Strict n r → (a : Arrays) (p : Progress) → Shaping n r tied free a p → p .height ≡ 0

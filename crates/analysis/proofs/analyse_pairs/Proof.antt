@@ -13,13 +13,14 @@ refused-requires c κs = search needs
 
 returns : tie.Need-returns
 returns c =
-    let s = c .before .before .before .before .before in
+    let s = c .before .before .before .before .before .before in
     let b = s .args .bytes .now in
     let ar = s .args .area .now in
     let list = s .args .list .now in
     let n = s .args .count in
-    subst (λ a. Gives (pairOutcome (rooms b ar) n list) b ar a b ar) (sym (c .refused .ensures))
-    (gives-refusal _ (pairOutcome (rooms b ar) n list) b ar 2 0 0 0 0 (pairs-odd (rooms b ar) n list (c .before .if1 .taken)) refl)
+    let hours = s .args .hours .now in
+    subst (λ a. Gives (pairOutcome (rooms b ar) n hours list) b ar a b ar) (sym (c .refused .ensures))
+    (gives-refusal _ (pairOutcome (rooms b ar) n hours list) b ar 2 0 0 0 0 (pairs-odd (rooms b ar) n hours list (c .before .if1 .taken)) refl)
 
 of-count-requires : tie.Need-of-count-requires
 of-count-requires c κs = search needs
@@ -33,13 +34,14 @@ same-length-2 c = search needs
 returns-2 : tie.Need-returns-2
 returns-2 c =
     let test = c .before .before .before .before .before .before .before .before .before in
-    let s = test .before .before in
+    let s = test .before .before .before in
     let b = s .args .bytes .now in
     let ar = s .args .area .now in
     let list = s .args .list .now in
     let n = s .args .count in
-    gives-same (sym (pairs-even (rooms b ar) n list (c .before .before .before .before .before .before .before .if1 .left)))
-    (c .before .before .before .before .of-count .ensures (pairs list) (pairs-length list) (λ few. refl))
+    let hours = s .args .hours .now in
+    gives-same (sym (pairs-even (rooms b ar) n hours list (c .before .before .before .before .before .before .before .if1 .left)))
+    (c .before .before .before .before .of-count .ensures hours (pairs list) (λ few. refl) (pairs-length list) (λ few. refl))
 
 pub analyse-pairs-spec : {M : Type 1} → statement M
 analyse-pairs-spec =

@@ -1,17 +1,49 @@
+-- `analyse_sheet` meets its contract: the sheet's length decides 1, the read 2, and what was read all others.
 use borrow.Author.Needs.{needs}
-use mathlib.Core.Path.{sym, ap, subst, refl, _∙_}
+use Prim.Native.Nat.{ℕ, _≤_}
+use mathlib.Core.Path.{_≡_, sym, ap, subst, refl, _∙_}
+use mathlib.Core.List.{List}
 use native.Mathlib.Omega.{arith}
-use lib.ListN.{take}
+use lib.ListN.{length, take}
 use lib.Seq.{length-take-le}
 use Rattle.relation.specs.Arcs.{pairs}
-use Rattle.sheet.specs.Scan.{scan}
+use Rattle.analysis.specs.Bounds.{longestSheet}
 use Rattle.analysis.specs.Outcome.{sheetOutcome}
 use Rattle.analysis.specs.Result.{rooms, Gives}
 use Rattle.analysis.proofs.Crossing.{gives-same, gives-refusal}
 use Rattle.analysis.proofs.Steps.{sheet-long, sheet-broken, sheet-read, pairs-bytes}
-use Rattle.analysis.proofs.SheetArcs.{arcs-read, broken-read, list-length}
+use Rattle.analysis.proofs.SheetArcs.{SheetLists, sheet-lists, broken-read, hours-long, list-long}
 use Rattle.analysis.proofs.analyse_sheet.Statement.{statement}
 use Rattle.analysis.proofs.analyse_sheet.Tie as tie
+
+-- the sheet, the areas, and what the read leaves in the lists
+module _ (c : tie.After-read-sheet) where
+  abbrev start : tie.Start
+  start = c .before .before .before .before .before .before .before
+
+  abbrev text : List ℕ
+  text = start .args .sheet .now
+
+  abbrev bytes : List ℕ
+  bytes = start .args .bytes .now
+
+  abbrev area : List ℕ
+  area = start .args .area .now
+
+  abbrev times : List ℕ
+  times = c .read-sheet .last .1 .0
+
+  abbrev list : List ℕ
+  list = c .read-sheet .last .1 .1 .0
+
+  short : length text ≤ longestSheet
+  short = c .before .before .before .if1 .left
+
+  times-length : length times ≡ 128
+  times-length = hours-long text _ _ (c .read-sheet .result) times list (c .read-sheet .ensures)
+
+  list-length : length list ≡ 8192
+  list-length = list-long text _ _ (c .read-sheet .result) times list (c .read-sheet .ensures)
 
 refused-requires : tie.Need-refused-requires
 refused-requires c κs = search needs
@@ -28,11 +60,25 @@ returns c =
 slice-aggregate-read-sheet : tie.Need-slice-aggregate-read-sheet
 slice-aggregate-read-sheet c = search needs
 
+slice-aggregate-read-sheet-2 : tie.Need-slice-aggregate-read-sheet-2
+slice-aggregate-read-sheet-2 c = search needs
+
 read-sheet-requires : tie.Need-read-sheet-requires
 read-sheet-requires c κs = search needs
 
 enum-known-read : tie.Need-enum-known-read
 enum-known-read c = search needs
+
+timed-requires : tie.Need-timed-requires
+timed-requires c κs = search needs
+
+array-share-prefix-hours : tie.Need-array-share-prefix-hours
+array-share-prefix-hours c = search needs
+
+slice-aggregate-of-count : tie.Need-slice-aggregate-of-count
+slice-aggregate-of-count c =
+    let r = c .before .before .before .before .before .before .before in
+    sym (length-take-le (c .before .timed .result) (times r) (omega (arith, times-length r, c .before .timed .ensures .0)))
 
 looked-at-requires : tie.Need-looked-at-requires
 looked-at-requires c κs = search needs
@@ -40,13 +86,10 @@ looked-at-requires c κs = search needs
 array-share-prefix-list : tie.Need-array-share-prefix-list
 array-share-prefix-list c = search needs
 
-slice-aggregate-of-count : tie.Need-slice-aggregate-of-count
-slice-aggregate-of-count c =
-    let test = c .before .before .before .before .before .before .before .before .before in
-    let s = test .before .before .before in
-    let a = c .before .before .before .before .before .before .read-sheet in
-    let long = list-length (scan (s .args .sheet .now)) _ (a .last .1 .0) (a .result) (a .ensures) in
-    sym (length-take-le (c .before .looked-at .result) (a .last .1 .0) (omega (arith, long, c .before .looked-at .ensures .0)))
+slice-aggregate-of-count-2 : tie.Need-slice-aggregate-of-count-2
+slice-aggregate-of-count-2 c =
+    let r = c .before .before .before .before .before .before .before .before .before in
+    sym (length-take-le (c .before .looked-at .result) (list r) (omega (arith, list-length r, c .before .looked-at .ensures .0)))
 
 of-count-requires : tie.Need-of-count-requires
 of-count-requires c κs = search needs
@@ -65,30 +108,22 @@ same-length-2 c = search needs
 
 returns-2 : tie.Need-returns-2
 returns-2 c =
-    let test = c .before .before .before .before .before .before .before .before .before in
-    let s = test .before .before .before .before .before .before .before .before .before .before in
-    let b = s .args .bytes .now in
-    let ar = s .args .area .now in
-    let text = s .args .sheet .now in
-    let a = test .before .before .before .before .read-sheet in
-    let x = arcs-read (scan text) _ (a .last .1 .0) (a .result) _ _ (a .ensures) (test .before .read .given .1) refl in
-    gives-same (sym (sheet-read (rooms b ar) text _ (x .arcs) (test .before .before .before .before .before .before .if1 .left) (x .read-is)))
-    (c .before .before .before .before .of-count .ensures (x .arcs) (x .size)
-    (λ few. ap (λ k. pairs (take k (a .last .1 .0))) (c .before .before .before .before .before .before .before .before .looked-at .ensures .1 few)
-    ∙ ap pairs (x .front few) ∙ pairs-bytes (x .arcs)))
+    let told = c .before .before .before .before .before .before .before .before .before .before .before in
+    let r = told .before .before .before .before .before in
+    let x = sheet-lists (text r) _ _ (r .read-sheet .result) (times r) (list r) (r .read-sheet .ensures) _ _ (told .before .read .given .1) refl refl in
+    gives-same (sym (sheet-read (rooms (bytes r) (area r)) (text r) _ (x .hours) (x .arcs) (short r) (x .read-is)))
+    (c .before .before .before .before .of-count .ensures (x .hours) (x .arcs)
+    (λ few. ap (λ k. take k (times r)) (c .before .before .before .before .before .before .before .before .before .before .timed .ensures .1 few) ∙ x .hours-front few)
+    (x .size)
+    (λ few. ap (λ k. pairs (take k (list r))) (c .before .before .before .before .before .before .before .before .looked-at .ensures .1 few) ∙ ap pairs (x .front few) ∙ pairs-bytes (x .arcs)))
 
 returns-3 : tie.Need-returns-3
 returns-3 c =
-    let test = c .before .before .before .before .before .before .before .before .before in
-    let s = test .before .before in
-    let b = s .args .bytes .now in
-    let ar = s .args .area .now in
-    let text = s .args .sheet .now in
-    let a = c .before .before .before .before .before .read-sheet in
-    let e = broken-read (scan text) _ (a .last .1 .0) (a .result) _ (a .ensures) (c .before .before .read2 .given .1) in
-    subst (λ a. Gives (sheetOutcome (rooms b ar) text) b ar a b ar) (sym (c .refused2 .ensures))
-    (gives-refusal _ (sheetOutcome (rooms b ar) text) b ar 2 _ 0 0 0
-    (sheet-broken (rooms b ar) text _ (c .before .before .before .before .before .before .before .if1 .left) e) refl)
+    let r = c .before .before .before .before .before .before in
+    let e = broken-read (text r) _ _ (r .read-sheet .result) (times r) (list r) (r .read-sheet .ensures) _ (c .before .before .read2 .given .1) in
+    subst (λ a. Gives (sheetOutcome (rooms (bytes r) (area r)) (text r)) (bytes r) (area r) a (bytes r) (area r)) (sym (c .refused2 .ensures))
+    (gives-refusal _ (sheetOutcome (rooms (bytes r) (area r)) (text r)) (bytes r) (area r) 2 _ 0 0 0
+    (sheet-broken (rooms (bytes r) (area r)) (text r) _ (short r) e) refl)
 
 pub analyse-sheet-spec : {M : Type 1} → statement M
 analyse-sheet-spec =
@@ -97,11 +132,15 @@ analyse-sheet-spec =
     refused-requires
     returns
     slice-aggregate-read-sheet
+    slice-aggregate-read-sheet-2
     read-sheet-requires
     enum-known-read
+    timed-requires
+    array-share-prefix-hours
+    slice-aggregate-of-count
     looked-at-requires
     array-share-prefix-list
-    slice-aggregate-of-count
+    slice-aggregate-of-count-2
     of-count-requires
     enum-known-read-2
     refused-requires-2

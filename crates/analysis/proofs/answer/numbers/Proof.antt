@@ -40,6 +40,12 @@ enum-told-5 c = search needs
 enum-told-6 : tie.Need-enum-told-6
 enum-told-6 c = search needs
 
+enum-told-7 : tie.Need-enum-told-7
+enum-told-7 c = search needs
+
+enum-known-verdict-7 : tie.Need-enum-known-verdict-7
+enum-known-verdict-7 c = search needs
+
 returns : tie.Need-returns
 returns c = told-by (c .before .verdict .given .1)
 
@@ -76,6 +82,12 @@ returns-11 c = told-by (c .enum-told5 .given .1)
 returns-12 : tie.Need-returns-12
 returns-12 c = told-by (c .enum-told6 .given .1)
 
+returns-13 : tie.Need-returns-13
+returns-13 c = told-by (c .enum-told7 .given .1)
+
+returns-14 : tie.Need-returns-14
+returns-14 c = told-by (c .before .verdict7 .given .1)
+
 pub numbers-spec : {M : Type 1} → statement M
 numbers-spec =
     tie.close
@@ -92,6 +104,8 @@ numbers-spec =
     enum-told-4
     enum-told-5
     enum-told-6
+    enum-told-7
+    enum-known-verdict-7
     returns
     returns-2
     returns-3
@@ -103,4 +117,6 @@ numbers-spec =
     returns-9
     returns-10
     returns-11
-    returns-12)
+    returns-12
+    returns-13
+    returns-14)

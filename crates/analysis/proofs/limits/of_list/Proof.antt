@@ -22,19 +22,20 @@ enum-told c = search needs
 
 of-named-requires : tie.Need-of-named-requires
 of-named-requires c κs =
-    let s = c .before .before .before .before .before .before .before .before in
-    (s .pre, sym (c .before .before .before .before .first-outside .ensures) ∙ ap found (c .before .before .enum-told .given .1))
+    let s = c .before .before .before .before .before .before .before .before .before in
+    (s .pre .0, (s .pre .1, sym (c .before .before .before .before .first-outside .ensures) ∙ ap found (c .before .before .enum-told .given .1)))
 
 returns : tie.Need-returns
 returns c =
-    let s = c .before .before .before .before .before .before .before .before in
+    let s = c .before .before .before .before .before .before .before .before .before in
     let b = s .args .bytes .now in
     let ar = s .args .area .now in
     let arcs = pairs (s .args .list .now) in
     let n = s .args .n in
+    let hours = s .args .hours .now in
     let here = sym (c .before .before .before .before .first-outside .ensures) ∙ ap found (c .before .before .far .given .1) in
-    subst (λ a. Gives (listed (rooms b ar) n arcs) b ar a b ar) (sym (c .refused .ensures))
-    (gives-refusal _ (listed (rooms b ar) n arcs) b ar 5 _ 0 0 0 (listed-5 (rooms b ar) n arcs _ here) refl)
+    subst (λ a. Gives (listed (rooms b ar) n hours arcs) b ar a b ar) (sym (c .refused .ensures))
+    (gives-refusal _ (listed (rooms b ar) n hours arcs) b ar 5 _ 0 0 0 (listed-5 (rooms b ar) n hours arcs _ here) refl)
 
 same-length : tie.Need-same-length
 same-length c = search needs

@@ -23,19 +23,20 @@ enum-told c = search needs
 
 of-arcs-requires : tie.Need-of-arcs-requires
 of-arcs-requires c κs =
-    let s = c .before .before .before .before .before .before .before .before in
-    (s .pre .0, outside-none (s .args .n) (pairs (s .args .list .now)) (s .pre .1))
+    let s = c .before .before .before .before .before .before .before .before .before in
+    (s .pre .0, (outside-none (s .args .n) (pairs (s .args .list .now)) (s .pre .1 .1), s .pre .1 .0))
 
 returns : tie.Need-returns
 returns c =
-    let s = c .before .before .before .before .before .before .before .before in
+    let s = c .before .before .before .before .before .before .before .before .before in
     let b = s .args .bytes .now in
     let ar = s .args .area .now in
     let arcs = pairs (s .args .list .now) in
     let n = s .args .n in
+    let hours = s .args .hours .now in
     let here = sym (c .before .before .before .before .first-loop .ensures) ∙ ap found (c .before .before .own .given .1) in
-    subst (λ a. Gives (listed (rooms b ar) n arcs) b ar a b ar) (sym (c .refused .ensures))
-    (gives-refusal _ (listed (rooms b ar) n arcs) b ar 6 _ 0 0 0 (listed-6 (rooms b ar) n arcs _ (s .pre .1) here) refl)
+    subst (λ a. Gives (listed (rooms b ar) n hours arcs) b ar a b ar) (sym (c .refused .ensures))
+    (gives-refusal _ (listed (rooms b ar) n hours arcs) b ar 6 _ 0 0 0 (listed-6 (rooms b ar) n hours arcs _ (s .pre .1 .1) here) refl)
 
 same-length : tie.Need-same-length
 same-length c = search needs
@@ -46,13 +47,14 @@ same-length-2 c = search needs
 returns-2 : tie.Need-returns-2
 returns-2 c =
     let test = c .before .before .before .before .before .before .before .before .before in
-    let s = test .before .before .before .before in
+    let s = test .before .before .before .before .before in
     let b = s .args .bytes .now in
     let ar = s .args .area .now in
     let arcs = pairs (s .args .list .now) in
     let n = s .args .n in
+    let hours = s .args .hours .now in
     let none-here = sym (test .first-loop .ensures) ∙ ap found (c .before .before .before .before .before .before .before .enum-told .given .1) in
-    gives-same (sym (listed-order (rooms b ar) n arcs (s .pre .1) none-here)) (c .before .before .before .before .of-arcs .ensures)
+    gives-same (sym (listed-order (rooms b ar) n hours arcs (s .pre .1 .1) none-here)) (c .before .before .before .before .of-arcs .ensures)
 
 pub of-named-spec : {M : Type 1} → statement M
 of-named-spec =

@@ -20,13 +20,16 @@ use Rattle.analysis.proofs.order.of_arcs.Tie as tie
 -- the table of the arcs
 module _ (c : tie.After-table-of) where
   abbrev start : tie.Start
-  start = c .before .before .before .before
+  start = c .before .before .before .before .before
 
   abbrev n : ℕ
   n = start .args .n
 
   abbrev arcs : List Arc
   arcs = pairs (start .args .list .now)
+
+  abbrev hours : List ℕ
+  hours = start .args .hours .now
 
   abbrev bytes : List ℕ
   bytes = start .args .bytes .now
@@ -35,7 +38,7 @@ module _ (c : tie.After-table-of) where
   area = start .args .area .now
 
   inside : Inside n (c .table-of .result)
-  inside = table-inside n arcs (c .table-of .result) (c .table-of .ensures) (start .pre .1)
+  inside = table-inside n arcs (c .table-of .result) (c .table-of .ensures) (start .pre .1 .0)
 
 -- its closure
 module _ (c : tie.After-closure) where
@@ -55,8 +58,8 @@ module _ (c : tie.After-enum-told) where
 
 table-of-requires : tie.Need-table-of-requires
 table-of-requires c κs =
-    let s = c .before .before .before in
-    λ a m. (omega (arith, s .pre .1 a m .0, s .pre .0 .1), omega (arith, s .pre .1 a m .1, s .pre .0 .1))
+    let s = c .before .before .before .before in
+    λ a m. (omega (arith, s .pre .1 .0 a m .0, s .pre .0 .1), omega (arith, s .pre .1 .0 a m .1, s .pre .0 .1))
 
 closure-requires : tie.Need-closure-requires
 closure-requires c κs = (start c .pre .0 .1, inside c)
@@ -81,7 +84,10 @@ take-apart-requires c κs =
       start p .pre .0,
       (
         closure-strict (n p) (arcs p) (p .table-of .result) (p .table-of .ensures) (q .closure .result) (q .closure .ensures) (none-here o),
-        closure-inside (n p) (p .table-of .result) (q .closure .result) (n p) (inside p) (q .closure .ensures),
+        (
+          closure-inside (n p) (p .table-of .result) (q .closure .result) (n p) (inside p) (q .closure .ensures),
+          start p .pre .1 .1,
+        ),
       ),
     )
 
@@ -91,9 +97,9 @@ returns c =
     let q = first .before in
     let p = t q in
     let here = ap (firstOnCycle (n p)) (sym (closes q)) ∙ sym (first .first-on-cycle .ensures) ∙ ap found (c .before .before .circle .given .1) in
-    subst (λ a. Gives (ordered (rooms (bytes p) (area p)) (n p) (before (n p) (arcs p))) (bytes p) (area p) a (bytes p) (area p))
+    subst (λ a. Gives (ordered (rooms (bytes p) (area p)) (n p) (hours p) (before (n p) (arcs p))) (bytes p) (area p) a (bytes p) (area p))
     (sym (c .refused .ensures))
-    (gives-circle (rooms (bytes p) (area p)) (n p) (before (n p) (arcs p)) _ (bytes p) (area p) here)
+    (gives-circle (rooms (bytes p) (area p)) (n p) (hours p) (before (n p) (arcs p)) _ (bytes p) (area p) here)
 
 same-length : tie.Need-same-length
 same-length c = search needs
@@ -106,7 +112,7 @@ returns-2 c =
     let o = c .before .before .before .before .before .before .before in
     let q = k o in
     let p = t q in
-    gives-same (no-circle (rooms (bytes p) (area p)) (n p) (before (n p) (arcs p)) (holds (q .closure .result)) (closes q) (none-here o))
+    gives-same (no-circle (rooms (bytes p) (area p)) (n p) (hours p) (before (n p) (arcs p)) (holds (q .closure .result)) (closes q) (none-here o))
     (c .before .before .before .before .take-apart .ensures)
 
 pub of-arcs-spec : {M : Type 1} → statement M

@@ -1,17 +1,20 @@
 -- `order::take_apart` meets its contract: the record decides between 8 and the rest, and the rooms between 9, 10 and acceptance.
 use borrow.Author.Needs.{needs}
 use borrow.Author.Tests.{not-false}
-use Prim.Native.Nat.{ℕ, _≤_}
-use mathlib.Core.Path.{_≡_, sym, subst}
+use Prim.Native.Nat.{ℕ, _^_, _≤_}
+use mathlib.Core.Path.{_≡_, sym, ap, subst, _∙_}
 use mathlib.Core.List.{List}
 use mathlib.Core.Option.{some}
 use native.Mathlib.Omega.{arith}
+use Rattle.poset.specs.Areas.{padded}
 use Rattle.poset.specs.Order.{Rel, Strict}
 use Rattle.poset.specs.Tree.{Tree}
 use Rattle.poset.specs.Decompose.{treeOf}
 use Rattle.poset.proofs.Laws.{not-true}
 use Rattle.relation.specs.Table.{holds, Inside}
 use Rattle.relation.proofs.Chain.{reduced-inside}
+use Rattle.record.specs.Bits.{AllBelow}
+use Rattle.record.specs.Layout.{hoursBits}
 use Rattle.writer.specs.Written.{written}
 use Rattle.writer.specs.declared.writing.Written.{Written}
 use Rattle.writer.proofs.Spelling.{written-told, bytes-few, bytes-size}
@@ -19,19 +22,26 @@ use Rattle.analysis.specs.Outcome.{Outcome, decomposed}
 use Rattle.analysis.specs.Result.{rooms, Gives}
 use Rattle.analysis.proofs.Crossing.{gives-crossed}
 use Rattle.analysis.proofs.Taking.{count-few, gives-9, gives-10, gives-0}
+use Rattle.analysis.proofs.Times.{padded-below, written-padded}
 use Rattle.analysis.proofs.order.take_apart.Statement.{statement}
 use Rattle.analysis.proofs.order.take_apart.Tie as tie
 
 -- the order, the areas, and what is written of the order
 module _ (c : tie.After-struct-known) where
   abbrev start : tie.Start
-  start = c .before .before .before .before .before .before
+  start = c .before .before .before .before .before .before .before .before .before
 
   abbrev n : ℕ
   n = start .args .n
 
   abbrev order : Rel
   order = holds (start .args .after)
+
+  abbrev hours : List ℕ
+  hours = start .args .hours .now
+
+  abbrev all : List ℕ
+  all = c .before .before .before .before .padded .result
 
   abbrev bytes : List ℕ
   bytes = start .args .bytes .now
@@ -40,7 +50,7 @@ module _ (c : tie.After-struct-known) where
   area = start .args .area .now
 
   abbrev whole : Outcome
-  whole = decomposed (rooms bytes area) n order
+  whole = decomposed (rooms bytes area) n hours order
 
   abbrev wrote : Written
   wrote = c .before .write-record .result
@@ -51,14 +61,21 @@ module _ (c : tie.After-struct-known) where
   strict : Strict n order
   strict = start .pre .1 .0
 
+  padded-is : all ≡ padded hours
+  padded-is = c .before .before .before .before .padded .ensures
+
+  -- what is written is the record of the hours
+  wrote-is : wrote ≡ written n hours (treeOf n order)
+  wrote-is = c .before .write-record .ensures ∙ ap (λ (h : List ℕ). written n h (treeOf n order)) padded-is ∙ written-padded n hours (treeOf n order)
+
 -- a tree means the order
 module _ (c : tie.Else1) where
   abbrev was : tie.After-struct-known
   was = c .before
 
-  told : (t : Tree) × (treeOf (n was) (order was) ≡ some t) × (wrote was ≡ written (n was) (some t))
+  told : (t : Tree) × (treeOf (n was) (order was) ≡ some t) × (wrote was ≡ written (n was) (hours was) (some t))
   told =
-      written-told (n was) (treeOf (n was) (order was)) (wrote was) (was .before .write-record .ensures) .0 (not-false (wrote was .ok) (c .if1 .left))
+      written-told (n was) (hours was) (treeOf (n was) (order was)) (wrote was) (wrote-is was) .0 (not-false (wrote was .ok) (c .if1 .left))
 
 -- its reduced orders
 module _ (c : tie.After-reduced) where
@@ -71,13 +88,20 @@ module _ (c : tie.After-reduced) where
   inside : Inside (n (was with-tree)) covering
   inside =
       let s = start (was with-tree) in
-      reduced-inside (s .args .n) (s .args .after) covering (s .pre .1 .1) (c .reduced .ensures)
+      reduced-inside (s .args .n) (s .args .after) covering (s .pre .1 .1 .0) (c .reduced .ensures)
 
 transposed-requires : tie.Need-transposed-requires
 transposed-requires c κs = search needs
 
+padded-requires : tie.Need-padded-requires
+padded-requires c κs =
+    let s = c .before .before .before .before in
+    omega (arith, s .pre .1 .1 .1 .0, s .pre .0 .1)
+
 write-record-requires : tie.Need-write-record-requires
-write-record-requires c κs = search needs
+write-record-requires c κs =
+    let s = c .before .before .before .before .before .before .before in
+    (s .pre .0, (s .pre .1 .0, (s .pre .1 .1 .0, (c .before .before .before .transposed .ensures, subst (AllBelow (2 ^ hoursBits)) (sym (c .before .before .padded .ensures)) (padded-below _ (s .pre .1 .1 .1 .1))))))
 
 crossed-requires : tie.Need-crossed-requires
 crossed-requires c κs = search needs
@@ -86,10 +110,10 @@ returns : tie.Need-returns
 returns c =
     let k = c .before .before .before in
     let bare =
-    written-told (n k) (treeOf (n k) (order k)) (wrote k) (k .before .write-record .ensures) .1
+    written-told (n k) (hours k) (treeOf (n k) (order k)) (wrote k) (wrote-is k) .1
     (not-true (wrote k .ok) (c .before .before .if1 .taken)) in
     subst (λ a. Gives (whole k) (bytes k) (area k) a (bytes k) (area k)) (sym (c .crossed .ensures))
-    (gives-crossed (rooms (bytes k) (area k)) (n k) (order k) (bytes k) (area k) bare)
+    (gives-crossed (rooms (bytes k) (area k)) (n k) (hours k) (order k) (bytes k) (area k) bare)
 
 reduced-requires : tie.Need-reduced-requires
 reduced-requires c κs = search needs
@@ -107,7 +131,7 @@ returns-2 c =
     let k = was (with-tree r) in
     let (t, e, is) = told (with-tree r) in
     subst (λ a. Gives (whole k) (bytes k) (area k) a (bytes k) (area k)) (sym (c .refused .ensures))
-    (gives-9 (n k) (few k) (order k) (strict k) t e (wrote k) is (covering r) (r .reduced .ensures) (m .pair-count .result) (m .pair-count .ensures)
+    (gives-9 (n k) (few k) (hours k) (order k) (strict k) t e (wrote k) is (covering r) (r .reduced .ensures) (m .pair-count .result) (m .pair-count .ensures)
     (bytes k) (area k) (c .before .if2 .taken))
 
 mul-if3 : tie.Need-mul-if3
@@ -132,7 +156,7 @@ returns-3 c =
     let k = was (with-tree r) in
     let (t, e, is) = told (with-tree r) in
     subst (λ a. Gives (whole k) (bytes k) (area k) a (bytes k) (area k)) (sym (c .refused2 .ensures))
-    (gives-10 (n k) (few k) (order k) (strict k) t e (wrote k) is (covering r) (r .reduced .ensures) (m .pair-count .result) (m .pair-count .ensures)
+    (gives-10 (n k) (few k) (hours k) (order k) (strict k) t e (wrote k) is (covering r) (r .reduced .ensures) (m .pair-count .result) (m .pair-count .ensures)
     (bytes k) (area k) (c .before .before .if2 .left) (c .before .if3 .taken))
 
 copy-requires : tie.Need-copy-requires
@@ -141,8 +165,8 @@ copy-requires c κs =
     let r = fits .before .before .before .before in
     let k = was (with-tree r) in
     let (t, e, is) = told (with-tree r) in (
-      bytes-few (n k) (few k) (order k) (strict k) t e (wrote k) is,
-      bytes-size (n k) (few k) (order k) (strict k) t e (wrote k) is,
+      bytes-few (n k) (few k) (order k) (strict k) t e (hours k) (wrote k) is,
+      bytes-size (n k) (few k) (order k) (strict k) t e (hours k) (wrote k) is,
       fits .if2 .left,
     )
 
@@ -174,14 +198,15 @@ returns-4 c =
     let r = m .before .before in
     let k = was (with-tree r) in
     let (t, e, is) = told (with-tree r) in
-    gives-0 (n k) (few k) (order k) (strict k) t e (wrote k) is (covering r) (r .reduced .ensures) (m .pair-count .result) (m .pair-count .ensures)
-    (bytes k) (area k) (room w .before .if2 .left) (room w .if3 .left) _ _ (w .copy .ensures) (c .before .before .write-pairs .ensures)
+    gives-0 (n k) (few k) (hours k) (order k) (strict k) t e (wrote k) is (covering r) (r .reduced .ensures) (m .pair-count .result) (m .pair-count .ensures)
+    (bytes k) (area k) (room w .before .if2 .left) (room w .if3 .left) _ _ _ (padded-is k) (w .copy .ensures) (c .before .before .write-pairs .ensures)
 
 pub take-apart-spec : {M : Type 1} → statement M
 take-apart-spec =
     tie.close
     (tie.spec
     transposed-requires
+    padded-requires
     write-record-requires
     crossed-requires
     returns

@@ -26,7 +26,7 @@ read-tree c =
 -- the order of the two sequences
 module _ (c : tie.After-order-of) where
   abbrev e : tie.Else1
-  e = c .before .before .before .before .before
+  e = c .before .before .before .before .before .before
 
   order-inside : Inside (e .before .before .read-record .result .count) (c .order-of .result)
   order-inside = after-inside _ _ (read-tree e) (c .order-of .result) (c .order-of .ensures)
@@ -50,7 +50,7 @@ returns c =
     (gives-11 b (r .result) ar (r .ensures) (not-true _ (c .before .if1 .taken)))
 
 order-of-requires : tie.Need-order-of-requires
-order-of-requires c κs = ready _ _ (read-tree (c .before .before .before .before))
+order-of-requires c κs = ready _ _ (read-tree (c .before .before .before .before .before))
 
 reduced-requires : tie.Need-reduced-requires
 reduced-requires c κs = (read-tree (e c) .spells .most, (order-strict c, order-inside c))
