@@ -180,8 +180,15 @@ fn large_orders(rng: &mut Rng, part: usize, tally: &mut Tally) {
     short.remove(rng.below(short.len()));
     for orders in [Vec::new(), chain, nested, wide, short] {
         let hours = hours_within(rng, 128);
-        tally.compare_enough(&as_sheet(128, &hours, &orders));
-        tally.compare_enough(&as_pairs(128, &hours, &orders));
+        for input in [
+            as_sheet(128, &hours, &orders),
+            as_pairs(128, &hours, &orders),
+        ] {
+            let outcome = tally.compare_enough(&input);
+            let (record, reduced) = (outcome.record.len(), outcome.reduced.len());
+            tally.compare(&input, record, reduced);
+            tally.compare(&input, record.saturating_sub(1), reduced);
+        }
     }
 }
 
@@ -1057,24 +1064,23 @@ const LINE_TEXTS: &str = "\
 /// left out.
 fn other_lines(rng: &mut Rng, part: usize, tally: &mut Tally) {
     for _ in 0..2 {
-        for sheet in [small_sheets(rng)[part % 3].clone()] {
-            let lines: Vec<&[u8]> = sheet.split_inclusive(|&byte| byte == b'\n').collect();
-            for at in 0..lines.len() {
-                let (ahead, after) = (lines[..at].concat(), lines[at + 1..].concat());
-                compare_small(tally, [&ahead[..], &after].concat());
-                let end = rng.pick(&["\n", "\r\n"]);
-                for text in LINE_TEXTS.split('/') {
-                    let line = format!("{text}{end}").into_bytes();
-                    compare_small(tally, [&ahead, &line, lines[at], &after].concat());
-                    compare_small(tally, [&ahead, &line, &after[..]].concat());
-                }
+        let sheet = &small_sheets(rng)[part % 3];
+        let lines: Vec<&[u8]> = sheet.split_inclusive(|&byte| byte == b'\n').collect();
+        for at in 0..lines.len() {
+            let (ahead, after) = (lines[..at].concat(), lines[at + 1..].concat());
+            compare_small(tally, [&ahead[..], &after].concat());
+            let end = rng.pick(&["\n", "\r\n"]);
+            for text in LINE_TEXTS.split('/') {
+                let line = format!("{text}{end}").into_bytes();
+                compare_small(tally, [&ahead, &line, lines[at], &after].concat());
+                compare_small(tally, [&ahead, &line, &after[..]].concat());
             }
-            // Two lines exchanged.
-            for at in 1..lines.len() {
-                let mut lines = lines.clone();
-                lines.swap(at - 1, at);
-                compare_small(tally, lines.concat());
-            }
+        }
+        // Two lines exchanged.
+        for at in 1..lines.len() {
+            let mut lines = lines.clone();
+            lines.swap(at - 1, at);
+            compare_small(tally, lines.concat());
         }
     }
 }
@@ -1108,8 +1114,9 @@ fn cut_hours_lines(rng: &mut Rng, _: usize, tally: &mut Tally) {
 
 const LIST_COUNTS: [usize; 5] = [0, 1, 5, 128, 129];
 
-/// Hours lists of every length from 0 to 140, alone and beside each other refusal
-/// that is tested near 12: what is tested first has to be given.
+/// Hours lists of every length from 0 to 140 and of some that have the count as
+/// their last bits, alone and beside each other refusal that is tested near 12:
+/// what is tested first has to be given.
 fn hours_lists(rng: &mut Rng, part: usize, tally: &mut Tally) {
     let count = LIST_COUNTS[part];
     let lists: [Vec<u16>; 6] = [
@@ -1120,7 +1127,7 @@ fn hours_lists(rng: &mut Rng, part: usize, tally: &mut Tally) {
         vec![0, 1, 0],
         vec![500; 2 * MOST_ORDERS + 2],
     ];
-    for length in 0..=140 {
+    for length in (0..=140).chain([256 + count, 65_536 + count]) {
         let within = hours_within(rng, length);
         let mut above = within.clone();
         if length > 0 {

@@ -476,6 +476,10 @@ fn count_of(sheet: &[u8]) -> Option<usize> {
     text.parse().ok().filter(|_| digits <= 3)
 }
 
+fn says_no_job(sheet: &[u8]) -> bool {
+    sheet.starts_with(b"0\n") || sheet.starts_with(b"0\r\n")
+}
+
 /// Where numbers of hours begin that are there.
 fn hours_starts(sheet: &[u8]) -> Vec<usize> {
     let count = count_of(sheet).unwrap_or(0);
@@ -513,7 +517,7 @@ fn changed(sheet: &[u8]) -> Changed {
             changed.put_in(at, &b"0\n".repeat(count - 128));
         }
     }
-    if sheet.starts_with(b"0") && fault("an hours line is wanted for count 0") {
+    if says_no_job(sheet) && fault("an hours line is wanted for count 0") {
         changed.text[0] = b'1';
     }
     let with_digits = |starts: Vec<usize>, digits: usize| {
@@ -650,7 +654,7 @@ unsafe fn sheet_analysed(sheet: *const u8, sheet_len: usize, lent: &Lent) -> u64
     let mut outcome = analysed(analysis, asked.as_ref(), lent);
     if outcome.number == 2 {
         outcome.places[0] = changed.place(outcome.places[0]).min(sheet_len as u64);
-    } else if sheet.starts_with(b"0") && fault("an hours line is wanted for count 0") {
+    } else if says_no_job(sheet) && fault("an hours line is wanted for count 0") {
         outcome = plain_refusal(3, 0);
     }
     outcome = too_strict(sheet, misplaced(sheet, outcome));
