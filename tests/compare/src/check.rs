@@ -8,7 +8,7 @@ use std::collections::{BTreeMap, HashSet};
 use std::fmt::Write;
 
 /// Areas long enough for any record and any reduced orders.
-pub const ENOUGH: (usize, usize) = (272, 8192);
+pub const ENOUGH: (usize, usize) = (464, 8192);
 
 const GUARD: usize = 64;
 /// Failures printed in full.
@@ -17,7 +17,8 @@ const SHOWN: u64 = 5;
 #[derive(Clone, Hash, PartialEq, Eq)]
 pub enum Input {
     Sheet(Vec<u8>),
-    Pairs(u16, Vec<u16>),
+    /// A job count, the orders and the hours.
+    Pairs(u16, Vec<u16>, Vec<u16>),
     Record(Vec<u8>),
 }
 
@@ -25,8 +26,8 @@ impl Input {
     pub fn second(&self, record_area: usize, reduced_area: usize) -> Outcome {
         match self {
             Input::Sheet(sheet) => second::analyse_sheet(sheet, record_area, reduced_area),
-            Input::Pairs(count, list) => {
-                second::analyse_pairs(*count, list, record_area, reduced_area)
+            Input::Pairs(count, list, hours) => {
+                second::analyse_pairs(*count, list, hours, record_area, reduced_area)
             }
             Input::Record(record) => second::read_record(record, reduced_area),
         }
@@ -35,10 +36,35 @@ impl Input {
     fn show(&self) -> String {
         match self {
             Input::Sheet(sheet) => format!("sheet b\"{}\"", sheet.escape_ascii()),
-            Input::Pairs(count, list) => format!("pair list: count {count}, list {list:?}"),
+            Input::Pairs(count, list, hours) => {
+                format!("pair list: count {count}, list {list:?}, hours {hours:?}")
+            }
             Input::Record(record) => format!("record {}", hex(record)),
         }
     }
+}
+
+/// What an entry hands back beside its answer, the record and the reduced orders.
+#[derive(Clone, Copy, PartialEq)]
+enum Handed {
+    Nothing,
+    Sequences,
+    /// The sequences, and the hours in an area for so many.
+    Hours(usize),
+}
+
+/// Entries of an area for hours: mostly as many as there are, now and then more
+/// or fewer, as the record has it.
+fn hours_room(record: &[u8]) -> usize {
+    let sum: usize = record.iter().map(|&byte| byte as usize).sum();
+    match sum % 32 {
+        at @ 0..=5 => [0, 1, 2, 127, 129, 200][at],
+        _ => 128,
+    }
+}
+
+fn bytes_of(numbers: &[u16]) -> Vec<u8> {
+    numbers.iter().flat_map(|n| n.to_ne_bytes()).collect()
 }
 
 fn hex(bytes: &[u8]) -> String {
@@ -71,6 +97,14 @@ impl Guarded {
         self.bytes[GUARD..].as_mut_ptr()
     }
 
+    /// The area as one of 16-bit numbers.
+    pub fn pointer_16(&mut self) -> *mut u16 {
+        let pointer = self.pointer().cast::<u16>();
+        assert!(pointer.is_aligned(), "an area for hours is not aligned");
+        pointer
+    }
+
+    /// Bytes of the area.
     pub fn length(&self) -> usize {
         self.bytes.len() - 2 * GUARD
     }
@@ -116,7 +150,7 @@ pub struct Tally {
     pub inputs: u64,
     pub failed: u64,
     /// Inputs of each family, and of those the answers by number.
-    pub families: BTreeMap<&'static str, [u64; 12]>,
+    pub families: BTreeMap<&'static str, [u64; 14]>,
     distinct: HashSet<u64>,
     pattern: u64,
 }
@@ -148,7 +182,7 @@ impl Tally {
                     "ordersheet_analyse",
                     sheet,
                     lent,
-                    false,
+                    Handed::Nothing,
                     &expected,
                     ffi::analyse,
                 )
@@ -157,24 +191,41 @@ impl Tally {
                         "ordersheet_test_sheet",
                         sheet,
                         lent,
-                        true,
+                        Handed::Sequences,
                         &expected,
                         ffi::test_sheet,
                     )
                 }),
-            Input::Pairs(count, list) => {
-                let call =
-                    |list: &Lent<u16>, areas: &mut Areas| ffi::test_pairs(*count, list, areas);
-                self.call("ordersheet_test_pairs", list, lent, true, &expected, call)
+            Input::Pairs(count, list, hours) => {
+                let beside = Lent::beside(hours);
+                let call = |list: &Lent<u16>, areas: &mut Areas| {
+                    ffi::test_pairs(*count, list, &beside, areas)
+                };
+                self.call(
+                    "ordersheet_test_pairs",
+                    list,
+                    lent,
+                    Handed::Sequences,
+                    &expected,
+                    call,
+                )
+                .or_else(|| (!beside.is(hours)).then(|| "  the hours were changed".to_string()))
             }
             Input::Record(record) => self
-                .call("ordersheet_read", record, lent, false, &expected, ffi::read)
+                .call(
+                    "ordersheet_read",
+                    record,
+                    lent,
+                    Handed::Nothing,
+                    &expected,
+                    ffi::read,
+                )
                 .or_else(|| {
                     self.call(
                         "ordersheet_test_read",
                         record,
                         lent,
-                        true,
+                        Handed::Hours(hours_room(record)),
                         &expected,
                         ffi::test_read,
                     )
@@ -237,25 +288,33 @@ impl Tally {
         entry: &str,
         input: &[T],
         lent: (usize, usize),
-        sequences: bool,
+        handed: Handed,
         expected: &Outcome,
         call: impl FnOnce(&Lent<T>, &mut Areas) -> u64,
     ) -> Option<String> {
         let copy = Lent::new(input);
+        let hours_room = match handed {
+            Handed::Hours(room) => room,
+            _ => 0,
+        };
+        let hours = bytes_of(&expected.hours[..hours_room.min(128)]);
         let mut areas = Areas {
             record: Guarded::new(lent.0, &mut self.pattern),
             reduced: Guarded::new(lent.1, &mut self.pattern),
             forward: Guarded::new(128, &mut self.pattern),
             reverse: Guarded::new(128, &mut self.pattern),
+            hours: Guarded::new(2 * hours_room, &mut self.pattern),
         };
         let answer = call(&copy, &mut areas);
         let none: &[u8] = &[];
+        let sequences = handed != Handed::Nothing;
         let sequence = |entries| if sequences { entries } else { none };
         let right = answer == packed(expected.number, expected.places)
             && areas.record.is(&expected.record)
             && areas.reduced.is(&expected.reduced)
             && areas.forward.is(sequence(&expected.forward))
             && areas.reverse.is(sequence(&expected.reverse))
+            && areas.hours.is(&hours)
             && copy.is(input);
         if right {
             return None;
@@ -268,6 +327,11 @@ impl Tally {
         if sequences {
             let _ = writeln!(report, "    forward {}", hex(&expected.forward));
             let _ = writeln!(report, "    reverse {}", hex(&expected.reverse));
+            let _ = writeln!(
+                report,
+                "    hours, in an area of {hours_room}: {}",
+                hex(&hours)
+            );
         }
         let places = [
             answer >> 8 & 0xffff,
@@ -284,6 +348,7 @@ impl Tally {
         let _ = writeln!(report, "    reduced {}", areas.reduced.show());
         let _ = writeln!(report, "    forward {}", areas.forward.show());
         let _ = writeln!(report, "    reverse {}", areas.reverse.show());
+        let _ = writeln!(report, "    hours {}", areas.hours.show());
         if !copy.is(input) {
             let _ = writeln!(report, "    the input was changed");
         }

@@ -38,6 +38,8 @@ extern "C" {
         count: u16,
         list: *const u16,
         list_len: usize,
+        hours: *const u16,
+        hours_len: usize,
         record: *mut u8,
         record_len: usize,
         reduced: *mut u8,
@@ -53,6 +55,8 @@ extern "C" {
         record_len: usize,
         reduced: *mut u8,
         reduced_len: usize,
+        hours: *mut u16,
+        hours_len: usize,
         forward: *mut u8,
         forward_len: usize,
         reverse: *mut u8,
@@ -66,6 +70,7 @@ pub struct Areas {
     pub reduced: Guarded,
     pub forward: Guarded,
     pub reverse: Guarded,
+    pub hours: Guarded,
 }
 
 pub fn analyse(sheet: &Lent<u8>, areas: &mut Areas) -> u64 {
@@ -109,12 +114,14 @@ pub fn test_sheet(sheet: &Lent<u8>, areas: &mut Areas) -> u64 {
     }
 }
 
-pub fn test_pairs(count: u16, list: &Lent<u16>, areas: &mut Areas) -> u64 {
+pub fn test_pairs(count: u16, list: &Lent<u16>, hours: &Lent<u16>, areas: &mut Areas) -> u64 {
     unsafe {
         ordersheet_test_pairs(
             count,
             list.pointer(),
             list.length(),
+            hours.pointer(),
+            hours.length(),
             areas.record.pointer(),
             areas.record.length(),
             areas.reduced.pointer(),
@@ -134,6 +141,8 @@ pub fn test_read(record: &Lent<u8>, areas: &mut Areas) -> u64 {
             record.length(),
             areas.reduced.pointer(),
             areas.reduced.length(),
+            areas.hours.pointer_16(),
+            areas.hours.length() / 2,
             areas.forward.pointer(),
             areas.forward.length(),
             areas.reverse.pointer(),

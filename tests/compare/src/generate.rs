@@ -240,8 +240,34 @@ pub fn any_graph(rng: &mut Rng, count: usize) -> Orders {
     list
 }
 
-pub fn sheet(count: usize, orders: &[(usize, usize)]) -> Vec<u8> {
+/// Hours for so many jobs, none above 4,095.
+pub fn hours_within(rng: &mut Rng, count: usize) -> Vec<u16> {
+    let style = rng.below(8);
+    let mut one = || match style {
+        0..=1 => 0,
+        2 => rng.pick(&[0, 1, 9, 10, 99, 100, 999, 1000, 2048, 4094, 4095]),
+        3 => rng.below(11),
+        _ => rng.below(4096),
+    };
+    (0..count).map(|_| one() as u16).collect()
+}
+
+/// The same, now and then with some above.
+pub fn hours(rng: &mut Rng, count: usize) -> Vec<u16> {
+    let mut hours = hours_within(rng, count);
+    if count > 0 && rng.percent(3) {
+        for _ in 0..rng.from(1, 3) {
+            hours[rng.below(count)] = rng.pick(&[4096, 4097, 5000, 8192, 9999]);
+        }
+    }
+    hours
+}
+
+pub fn sheet(count: usize, hours: &[u16], orders: &[(usize, usize)]) -> Vec<u8> {
     let mut text = format!("{count}\n");
+    for hours in hours {
+        text += &format!("{hours}\n");
+    }
     for (u, v) in orders {
         text += &format!("{u} {v}\n");
     }
@@ -340,10 +366,29 @@ pub fn job_fields(record: &[u8]) -> Vec<usize> {
             at += 9;
         } else {
             fields.push(at + 1);
-            at += 8;
+            at += 20;
         }
     }
     fields
+}
+
+/// The record with so many of the 12 bits of each hours, the last ones, or with
+/// zeros ahead of them: without hours it is in the former layout.
+pub fn with_hours_of(record: &[u8], width: usize) -> Vec<u8> {
+    let mut bits = Bits::default();
+    let mut at = 0;
+    let mut copy_to = |bits: &mut Bits, end: usize| {
+        (at..end).for_each(|at| bits.put(bit(record, at) as usize, 1));
+        at = end;
+    };
+    for job in job_fields(record) {
+        copy_to(&mut bits, job + 7);
+        bits.put(0, width.saturating_sub(12));
+        let mut left_out = Bits::default();
+        copy_to(&mut left_out, job + 19 - width.min(12));
+        copy_to(&mut bits, job + 19);
+    }
+    bits.bytes()
 }
 
 /// The record with two job numbers, given by their first bits, exchanged.
@@ -414,6 +459,8 @@ pub enum Flaw {
     SameKindInside,
     FillSet,
     MoreBytes,
+    /// Hours of so many bits.
+    HoursOf(usize),
 }
 
 /// The record of a random tree with one flaw, or with none.
@@ -444,12 +491,18 @@ pub fn flawed_record(rng: &mut Rng, flaw: Flaw) -> Vec<u8> {
     }
     let mut bits = Bits::default();
     bits.put((stated - 1) & 127, 7);
-    let mut single = if flaw == Flaw::GroupOfOne {
-        rng.below(count)
-    } else {
-        usize::MAX
+    let mut layout = Layout {
+        hours: &hours_within(rng, 128),
+        width: 12,
+        single: usize::MAX,
+        single_side: rng.percent(50),
     };
-    put(&mut bits, &tree, &mut single, rng.percent(50));
+    match flaw {
+        Flaw::GroupOfOne => layout.single = rng.below(count),
+        Flaw::HoursOf(width) => layout.width = width,
+        _ => {}
+    }
+    layout.put(&mut bits, &tree);
     if flaw == Flaw::FillSet && bits.0.len() % 8 != 0 {
         let fill = 8 - bits.0.len() % 8;
         bits.put(1 << rng.below(fill), fill);
@@ -464,15 +517,17 @@ pub fn flawed_record(rng: &mut Rng, flaw: Flaw) -> Vec<u8> {
 
 /// So many groups of two, chain and side in turn, each the first child of the
 /// one ahead; up to 127 of them make a plain tree.
-pub fn nested_record(groups: usize, side: bool) -> Vec<u8> {
+pub fn nested_record(rng: &mut Rng, groups: usize) -> Vec<u8> {
+    let side = rng.percent(50);
     let mut bits = Bits::default();
     bits.put(groups.min(127), 7);
     for group in 0..groups {
         bits.put(0b10 | (side ^ (group % 2 == 1)) as usize, 2);
         bits.put(1, 7);
     }
-    for job in 0..=groups {
+    for (job, hours) in hours_within(rng, groups + 1).into_iter().enumerate() {
         bits.put(job.min(127), 8);
+        bits.put(hours as usize, 12);
     }
     bits.bytes()
 }
@@ -494,24 +549,32 @@ fn set_leaf(shape: &mut Shape, left: &mut usize, to: usize) {
     }
 }
 
-/// Lays out a shape; the leaf with `single` leaves left of it goes into a group
-/// of its own, of the given kind.
-fn put(bits: &mut Bits, shape: &Shape, single: &mut usize, single_side: bool) {
-    match shape {
-        Shape::Leaf(job) => {
-            if *single == 0 {
-                bits.put(0b10 | single_side as usize, 2);
-                bits.put(0, 7);
+/// How a shape is laid out: with hours by job, of so many bits; the leaf with
+/// `single` leaves left of it goes into a group of its own, of the given kind.
+struct Layout<'a> {
+    hours: &'a [u16],
+    width: usize,
+    single: usize,
+    single_side: bool,
+}
+
+impl Layout<'_> {
+    fn put(&mut self, bits: &mut Bits, shape: &Shape) {
+        match shape {
+            Shape::Leaf(job) => {
+                if self.single == 0 {
+                    bits.put(0b10 | self.single_side as usize, 2);
+                    bits.put(0, 7);
+                }
+                self.single = self.single.wrapping_sub(1);
+                bits.put(*job, 8);
+                bits.put(self.hours[*job] as usize, self.width);
             }
-            *single = single.wrapping_sub(1);
-            bits.put(*job, 8);
-        }
-        Shape::Group { side, children } => {
-            bits.put(0b10 | *side as usize, 2);
-            bits.put(children.len() - 1, 7);
-            children
-                .iter()
-                .for_each(|child| put(bits, child, single, single_side));
+            Shape::Group { side, children } => {
+                bits.put(0b10 | *side as usize, 2);
+                bits.put(children.len() - 1, 7);
+                children.iter().for_each(|child| self.put(bits, child));
+            }
         }
     }
 }

@@ -30,7 +30,7 @@ extern "C" {
 }
 
 thread_local! {
-    static EDGE: *mut u8 = edge();
+    static EDGES: [*mut u8; 2] = [edge(), edge()];
 }
 
 /// Maps room for an input; its end, where the pages that cannot be read begin.
@@ -47,7 +47,8 @@ fn edge() -> *mut u8 {
     }
 }
 
-/// A copy of an input in its thread's room, there until the thread lends again.
+/// A copy of an input in one of its thread's rooms, there until the thread lends
+/// that room again.
 pub struct Lent<T> {
     pointer: *mut T,
     length: usize,
@@ -55,8 +56,17 @@ pub struct Lent<T> {
 
 impl<T: Copy + PartialEq> Lent<T> {
     pub fn new(input: &[T]) -> Lent<T> {
+        Lent::in_room(0, input)
+    }
+
+    /// A second input beside the first.
+    pub fn beside(input: &[T]) -> Lent<T> {
+        Lent::in_room(1, input)
+    }
+
+    fn in_room(room: usize, input: &[T]) -> Lent<T> {
         assert!(size_of_val(input) <= ROOM, "the input is too long to lend");
-        let edge = EDGE.with(|edge| edge.cast::<T>());
+        let edge = EDGES.with(|edges| edges[room].cast::<T>());
         unsafe {
             let pointer = edge.sub(input.len());
             pointer.copy_from_nonoverlapping(input.as_ptr(), input.len());

@@ -1,13 +1,15 @@
 //! The C entries made of `second`, to try the harness with no library. A fault
 //! other than 0 makes them wrong in one way, which the harness has to find.
 
-use second::{packed, Outcome, LONGEST_SHEET};
+use crate::generate::{list, with_hours_of, Bits};
+use second::sheet::Sheet;
+use second::{packed, Outcome, LONGEST_RECORD, LONGEST_SHEET, MOST_HOURS};
 use std::slice::{from_raw_parts, from_raw_parts_mut};
 use std::sync::atomic::{AtomicUsize, Ordering};
 
 pub static FAULT: AtomicUsize = AtomicUsize::new(0);
 
-pub const FAULTS: [&str; 41] = [
+pub const FAULTS: [&str; 82] = [
     "none",
     "a byte after the record is set",
     "a byte after the reduced orders is set",
@@ -28,6 +30,7 @@ pub const FAULTS: [&str; 41] = [
     "the longest sheet is too long",
     "a sheet of a byte more than the longest is not too long",
     "a sheet of 32,773 bytes is too long",
+    "a sheet of 36,870 bytes is too long",
     "the place of a broken line is one too far where the sheet stops short",
     "a carriage return alone ends a line",
     "a carriage return ends the last line",
@@ -49,6 +52,46 @@ pub const FAULTS: [&str; 41] = [
     "bits that fill the last byte may be set",
     "zero bytes may follow the record",
     "the input is written to",
+    "the hours list is written to",
+    "a leaf has the hours of the job after its own",
+    "a leaf has the hours of the job numbered as its place among the leaves",
+    "hours of 4,095 are too many",
+    "hours of 4,096 are not too many",
+    "hours above 9,999 are not too many",
+    "the place of 13 is one too far",
+    "the place of 13 is the last such job",
+    "12 is tested ahead of 3",
+    "12 is tested ahead of 4",
+    "13 is tested ahead of 4",
+    "13 is tested ahead of 12",
+    "5 is tested ahead of 13",
+    "a longer hours list is let pass",
+    "a shorter hours list is let pass",
+    "hours are heeded in the sequences",
+    "hours lines are counted one short",
+    "an hours line more is wanted",
+    "an hours line is wanted for count 0",
+    "at most 128 hours lines are read",
+    "the place of missing hours lines is that of the last line",
+    "a fifth digit of hours is accepted",
+    "a leading zero of hours is accepted",
+    "a fourth digit of hours is not accepted",
+    "a fourth digit of the count is accepted",
+    "a fourth digit of an order is accepted",
+    "an hours line ends in a line feed alone",
+    "the bits of hours are written in the wrong order",
+    "the bits of hours are read in the wrong order",
+    "hours are written with 13 bits",
+    "hours are written with 11 bits",
+    "hours are not handed back",
+    "hours are handed back in leaf order",
+    "hours are not cleared after the last job",
+    "hours stay on refusal",
+    "hours are handed back though the answer is 10",
+    "a byte after the area for hours is set",
+    "a record of 464 bytes is too long",
+    "a record over 272 bytes is too long",
+    "a record without hours is read",
 ];
 
 fn fault(name: &str) -> bool {
@@ -63,6 +106,7 @@ struct Lent {
     reduced: *mut u8,
     reduced_len: usize,
     sequences: Option<(*mut u8, *mut u8)>,
+    hours: Option<(*mut u16, usize)>,
 }
 
 impl Lent {
@@ -108,11 +152,45 @@ impl Lent {
             let entries = if all { 128 } else { count };
             reverse[..entries].copy_from_slice(&outcome.reverse[..entries]);
         }
+        if let Some((hours, room)) = self.hours {
+            self.write_hours(&outcome, count, from_raw_parts_mut(hours, room));
+            if fault("a byte after the area for hours is set") {
+                *hours.add(room).cast::<u8>() ^= 1;
+            }
+        }
         if fault("the third place is packed eight bits too high") {
             outcome.places.swap(2, 3);
         }
         packed(outcome.number, outcome.places)
     }
+
+    unsafe fn write_hours(&self, outcome: &Outcome, count: usize, area: &mut [u16]) {
+        let mut entries = outcome.hours;
+        if fault("the bits of hours are read in the wrong order") {
+            entries = entries.map(turned);
+        }
+        if fault("hours are not handed back") {
+            entries = [0; 128];
+        }
+        if outcome.number == 0 && fault("hours are handed back in leaf order") {
+            for place in 0..count {
+                entries[place] = outcome.hours[outcome.forward[place] as usize];
+            }
+        }
+        let mut written = area.len().min(128);
+        if outcome.number == 0 && fault("hours are not cleared after the last job") {
+            written = written.min(count);
+        }
+        if outcome.number != 0 && fault("hours stay on refusal") {
+            written = 0;
+        }
+        area[..written].copy_from_slice(&entries[..written]);
+    }
+}
+
+/// The 12 bits in the other order.
+fn turned(hours: u16) -> u16 {
+    hours.reverse_bits() >> 4
 }
 
 fn plain_refusal(number: u64, place: u64) -> Outcome {
@@ -123,22 +201,148 @@ fn plain_refusal(number: u64, place: u64) -> Outcome {
         reduced: Vec::new(),
         forward: [0; 128],
         reverse: [0; 128],
+        hours: [0; 128],
+    }
+}
+
+/// What is analysed: the job count, orders and hours of a sheet or pair list.
+struct Asked {
+    count: u16,
+    list: Vec<u16>,
+    hours: Vec<u16>,
+}
+
+impl Asked {
+    fn of_sheet(sheet: &Sheet) -> Asked {
+        Asked {
+            count: sheet.count as u16,
+            list: list(&sheet.orders),
+            hours: sheet.hours.iter().map(|&hours| hours as u16).collect(),
+        }
+    }
+
+    /// The analysis with other hours.
+    fn with(&self, hours: &[u16], lent: &Lent) -> Outcome {
+        let (record, reduced) = (lent.record_len, lent.reduced_len);
+        second::analyse_pairs(self.count, &self.list, hours, record, reduced)
+    }
+
+    /// The outcome where it is wrong about hours.
+    fn misheeded(&self, mut outcome: Outcome, lent: &Lent) -> Outcome {
+        let hours = &self.hours;
+        let count = self.count as usize;
+        let number = outcome.number;
+        let above = |most: usize| hours.iter().position(|&h| h as usize > most);
+        let each = |hours: &[u16], change: fn(u16) -> u16| -> Vec<u16> {
+            hours.iter().map(|&h| change(h)).collect()
+        };
+        let accepted = number == 0;
+        if accepted && fault("a leaf has the hours of the job after its own") {
+            let mut after = hours.clone();
+            after.rotate_left(1);
+            return self.with(&after, lent);
+        }
+        let by_place = "a leaf has the hours of the job numbered as its place among the leaves";
+        if accepted && fault(by_place) {
+            let mut placed = hours.clone();
+            for place in 0..count {
+                placed[outcome.forward[place] as usize] = hours[place];
+            }
+            return self.with(&placed, lent);
+        }
+        if accepted && fault("the bits of hours are written in the wrong order") {
+            return self.with(&each(hours, turned), lent);
+        }
+        for (name, width) in [
+            ("hours are written with 13 bits", 13),
+            ("hours are written with 11 bits", 11),
+        ] {
+            if accepted && fault(name) {
+                outcome.record = with_hours_of(&outcome.record, width);
+                outcome.places[0] = outcome.record.len() as u64;
+                if outcome.record.len() > lent.record_len {
+                    return plain_refusal(9, 0);
+                }
+            }
+        }
+        if accepted && hours[0] == 4095 && fault("hours are heeded in the sequences") {
+            outcome.forward[..count].sort();
+        }
+
+        let tested_later = matches!(number, 0 | 5..=10 | 13);
+        if let Some(job) = above(MOST_HOURS - 1) {
+            if tested_later && fault("hours of 4,095 are too many") {
+                return plain_refusal(13, job as u64);
+            }
+        }
+        if number == 13 {
+            let cut = |hours| if hours == 4096 { 0 } else { hours };
+            if fault("hours of 4,096 are not too many") {
+                return self.with(&each(hours, cut), lent);
+            }
+            let cut = |hours| if hours > 9999 { 0 } else { hours };
+            if fault("hours above 9,999 are not too many") {
+                return self.with(&each(hours, cut), lent);
+            }
+            if fault("the place of 13 is one too far") {
+                outcome.places[0] += 1;
+            }
+            if fault("the place of 13 is the last such job") {
+                let last = hours.iter().rposition(|&h| h as usize > MOST_HOURS);
+                outcome.places[0] = last.unwrap() as u64;
+            }
+            if fault("5 is tested ahead of 13") {
+                let without = self.with(&vec![0; count], lent);
+                if without.number == 5 {
+                    return without;
+                }
+            }
+        }
+        let other_length = hours.len() != count;
+        for (name, later) in [
+            ("12 is tested ahead of 3", 3),
+            ("12 is tested ahead of 4", 4),
+        ] {
+            if other_length && number == later && fault(name) {
+                return plain_refusal(12, 0);
+            }
+        }
+        for (name, later) in [
+            ("13 is tested ahead of 4", 4),
+            ("13 is tested ahead of 12", 12),
+        ] {
+            if let Some(job) = above(MOST_HOURS).filter(|_| number == later && fault(name)) {
+                return plain_refusal(13, job as u64);
+            }
+        }
+        let mut as_long = hours.clone();
+        as_long.resize(count, 0);
+        for (name, passes) in [
+            ("a longer hours list is let pass", hours.len() > count),
+            ("a shorter hours list is let pass", hours.len() < count),
+        ] {
+            if number == 12 && passes && fault(name) {
+                return self.with(&as_long, lent);
+            }
+        }
+        outcome
     }
 }
 
 unsafe fn analysed(
     analysis: impl Fn(usize, usize) -> Outcome,
-    orders: usize,
+    asked: Option<&Asked>,
     lent: &Lent,
 ) -> Outcome {
     let mut outcome = analysis(lent.record_len, lent.reduced_len);
     let number = outcome.number;
+    let orders = asked.map_or(0, |asked| asked.list.len() / 2);
     if number == 10 && fault("the record is written though the answer is 10") {
         let record = analysis(lent.record_len, 8192).record;
         from_raw_parts_mut(lent.record, record.len()).copy_from_slice(&record);
     }
     if number == 9 && fault("10 is tested ahead of 9") {
-        outcome = analysis(272, lent.reduced_len);
+        outcome = analysis(LONGEST_RECORD, lent.reduced_len);
         if outcome.number == 0 {
             outcome = plain_refusal(9, 0);
         }
@@ -160,7 +364,10 @@ unsafe fn analysed(
     if matches!(number, 5 | 6) && fault("the order's place counts from 1") {
         outcome.places[0] += 1;
     }
-    outcome
+    match asked {
+        Some(asked) => asked.misheeded(outcome, lent),
+        None => outcome,
+    }
 }
 
 /// The text with every such piece exchanged.
@@ -208,6 +415,171 @@ fn taken(sheet: &[u8]) -> Vec<u8> {
         taken = exchanged(sheet, b"\n\r\n", b"\n");
     }
     taken
+}
+
+/// A sheet as a reader takes it that is wrong about hours lines or digits: bytes
+/// are put in or left out, and places from there on are so much less or more.
+struct Changed {
+    text: Vec<u8>,
+    from: usize,
+    by: isize,
+}
+
+impl Changed {
+    fn new(text: &[u8]) -> Changed {
+        Changed {
+            text: text.to_vec(),
+            from: 0,
+            by: 0,
+        }
+    }
+
+    fn put_in(&mut self, at: usize, bytes: &[u8]) {
+        self.text.splice(at..at, bytes.iter().copied());
+        self.from = at;
+        self.by = bytes.len() as isize;
+    }
+
+    fn leave_out(&mut self, at: usize) {
+        self.text.remove(at);
+        self.from = at;
+        self.by = -1;
+    }
+
+    /// The place in the sheet of a place in the text.
+    fn place(&self, place: u64) -> u64 {
+        if place as usize >= self.from {
+            (place as isize - self.by).max(self.from as isize) as u64
+        } else {
+            place
+        }
+    }
+}
+
+/// The first bytes of the lines, and the end.
+fn starts(sheet: &[u8]) -> Vec<usize> {
+    let feeds = (0..sheet.len()).filter(|&at| sheet[at] == b'\n');
+    std::iter::once(0).chain(feeds.map(|at| at + 1)).collect()
+}
+
+fn digits_from(sheet: &[u8], start: usize) -> usize {
+    let digits = sheet[start..]
+        .iter()
+        .take_while(|byte| byte.is_ascii_digit());
+    digits.count()
+}
+
+/// The count, if the first line is one.
+fn count_of(sheet: &[u8]) -> Option<usize> {
+    let digits = digits_from(sheet, 0);
+    let text = std::str::from_utf8(&sheet[..digits]).ok()?;
+    text.parse().ok().filter(|_| digits <= 3)
+}
+
+fn says_no_job(sheet: &[u8]) -> bool {
+    sheet.starts_with(b"0\n") || sheet.starts_with(b"0\r\n")
+}
+
+/// Where numbers of hours begin that are there.
+fn hours_starts(sheet: &[u8]) -> Vec<usize> {
+    let count = count_of(sheet).unwrap_or(0);
+    let starts = starts(sheet);
+    starts.into_iter().skip(1).take(count).collect()
+}
+
+/// Where numbers of orders begin that are there.
+fn order_starts(sheet: &[u8]) -> Vec<usize> {
+    let count = count_of(sheet).unwrap_or(0);
+    let firsts = starts(sheet).into_iter().skip(1 + count);
+    firsts
+        .flat_map(|first| [first, first + digits_from(sheet, first) + 1])
+        .filter(|&start| start < sheet.len())
+        .collect()
+}
+
+fn changed(sheet: &[u8]) -> Changed {
+    let mut changed = Changed::new(sheet);
+    let Some(count) = count_of(sheet) else {
+        if digits_from(sheet, 0) == 4 && fault("a fourth digit of the count is accepted") {
+            changed.leave_out(3);
+        }
+        return changed;
+    };
+    let starts = starts(sheet);
+    let after = |line: usize| starts.get(line).copied();
+    if let Some(at) = after(count).filter(|_| count > 0) {
+        if fault("hours lines are counted one short") {
+            changed.put_in(at, b"0\n");
+        }
+    }
+    if let Some(at) = after(129).filter(|_| count > 128) {
+        if fault("at most 128 hours lines are read") {
+            changed.put_in(at, &b"0\n".repeat(count - 128));
+        }
+    }
+    if says_no_job(sheet) && fault("an hours line is wanted for count 0") {
+        changed.text[0] = b'1';
+    }
+    let with_digits = |starts: Vec<usize>, digits: usize| {
+        let mut starts = starts.into_iter();
+        starts.find(|&start| digits_from(sheet, start) == digits)
+    };
+    if fault("a fifth digit of hours is accepted") {
+        if let Some(start) = with_digits(hours_starts(sheet), 5) {
+            changed.leave_out(start + 4);
+        }
+    }
+    if fault("a fourth digit of an order is accepted") {
+        if let Some(start) = with_digits(order_starts(sheet), 4) {
+            changed.leave_out(start + 3);
+        }
+    }
+    if fault("a leading zero of hours is accepted") {
+        let mut starts = hours_starts(sheet).into_iter();
+        let zero = starts.find(|&at| sheet[at..].starts_with(b"0") && digits_from(sheet, at) == 2);
+        if let Some(start) = zero {
+            changed.leave_out(start);
+        }
+    }
+    changed
+}
+
+/// The outcome where an hours line is refused that should not be.
+fn too_strict(sheet: &[u8], outcome: Outcome) -> Outcome {
+    let hours_starts = hours_starts(sheet);
+    let mut ends = hours_starts.iter().map(|&at| at + digits_from(sheet, at));
+    let fourth = hours_starts
+        .iter()
+        .find(|&&at| digits_from(sheet, at) >= 4)
+        .map(|at| at + 3);
+    let with_return = ends.find(|&at| sheet.get(at) == Some(&b'\r'));
+    let sooner = |place: usize| match outcome.number {
+        1 => false,
+        2 => outcome.places[0] > place as u64,
+        _ => true,
+    };
+    for (name, place) in [
+        ("a fourth digit of hours is not accepted", fourth),
+        ("an hours line ends in a line feed alone", with_return),
+    ] {
+        if let Some(place) = place.filter(|&place| fault(name) && sooner(place)) {
+            return plain_refusal(2, place as u64);
+        }
+    }
+    let count = count_of(sheet).unwrap_or(0);
+    let starts = starts(sheet);
+    let in_form = !matches!(outcome.number, 1 | 2);
+    if in_form && count > 0 && starts.len() == 2 + count && fault("an hours line more is wanted") {
+        return plain_refusal(2, sheet.len() as u64);
+    }
+    let short = outcome.number == 2
+        && outcome.places[0] == sheet.len() as u64
+        && (2..=count + 1).contains(&starts.len())
+        && sheet.ends_with(b"\n");
+    if short && fault("the place of missing hours lines is that of the last line") {
+        return plain_refusal(2, starts[starts.len() - 2] as u64);
+    }
+    outcome
 }
 
 /// The first place where a line ends otherwise than the first one.
@@ -269,10 +641,23 @@ unsafe fn sheet_analysed(sheet: *const u8, sheet_len: usize, lent: &Lent) -> u64
         *(sheet as *mut u8) ^= 1;
     }
     let sheet = from_raw_parts(sheet, sheet_len);
-    let taken = taken(sheet);
-    let (count, orders) = second::sheet::read(&taken).unwrap_or_default();
-    let analysis = |record, reduced| second::analyse_sheet(&taken, record, reduced);
-    let mut outcome = misplaced(sheet, analysed(analysis, orders.len(), lent));
+    let mut changed = Changed::new(&taken(sheet));
+    if sheet_len <= LONGEST_SHEET {
+        let other = self::changed(&changed.text);
+        if other.text.len() <= LONGEST_SHEET {
+            changed = other;
+        }
+    }
+    let read = second::sheet::read(&changed.text).ok();
+    let asked = read.as_ref().map(Asked::of_sheet);
+    let analysis = |record, reduced| second::analyse_sheet(&changed.text, record, reduced);
+    let mut outcome = analysed(analysis, asked.as_ref(), lent);
+    if outcome.number == 2 {
+        outcome.places[0] = changed.place(outcome.places[0]).min(sheet_len as u64);
+    } else if says_no_job(sheet) && fault("an hours line is wanted for count 0") {
+        outcome = plain_refusal(3, 0);
+    }
+    outcome = too_strict(sheet, misplaced(sheet, outcome));
     if sheet_len == LONGEST_SHEET && fault("the longest sheet is too long") {
         outcome = plain_refusal(1, 0);
     }
@@ -281,22 +666,51 @@ unsafe fn sheet_analysed(sheet: *const u8, sheet_len: usize, lent: &Lent) -> u64
         let place = second::sheet::read(sheet).err().unwrap_or(sheet_len);
         outcome = plain_refusal(2, place as u64);
     }
-    if sheet_len == 32_773 && fault("a sheet of 32,773 bytes is too long") {
-        outcome = plain_refusal(1, 0);
+    for (name, length) in [
+        ("a sheet of 32,773 bytes is too long", 32_773),
+        ("a sheet of 36,870 bytes is too long", 36_870),
+    ] {
+        if sheet_len == length && fault(name) {
+            outcome = plain_refusal(1, 0);
+        }
     }
     let stops_short = outcome.number == 2 && outcome.places[0] == sheet_len as u64;
     if stops_short && fault("the place of a broken line is one too far where the sheet stops short")
     {
         outcome.places[0] += 1;
     }
-    if orders.len() == 4097 && outcome.number == 4 && fault("4,097 orders are not too many") {
-        let list: Vec<u16> = orders[..4096]
-            .iter()
-            .flat_map(|&(u, v)| [u as u16, v as u16])
-            .collect();
-        outcome = second::analyse_pairs(count as u16, &list, lent.record_len, lent.reduced_len);
+    let Some(mut asked) = asked else {
+        return lent.write(outcome, 0);
+    };
+    let many = asked.list.len() == 2 * 4097 && outcome.number == 4;
+    if many && fault("4,097 orders are not too many") {
+        asked.list.truncate(2 * 4096);
+        outcome = asked.with(&asked.hours, lent);
     }
-    lent.write(outcome, count)
+    lent.write(outcome, asked.count as usize)
+}
+
+/// A record in the layout without hours, with hours of 0 put in.
+fn widened(record: &[u8]) -> Option<Vec<u8>> {
+    let bit = |at: usize| record.get(at / 8).map(|byte| byte >> (7 - at % 8) & 1);
+    let mut bits = Bits::default();
+    let copy = |bits: &mut Bits, from: usize, width: usize| {
+        (from..from + width).try_for_each(|at| bit(at).map(|bit| bits.put(bit as usize, 1)))
+    };
+    copy(&mut bits, 0, 7)?;
+    let (mut at, mut leaves) = (7, 0);
+    while leaves <= record[0] >> 1 {
+        if bit(at)? == 1 {
+            copy(&mut bits, at, 9)?;
+            at += 9;
+        } else {
+            copy(&mut bits, at, 8)?;
+            bits.put(0, 12);
+            at += 8;
+            leaves += 1;
+        }
+    }
+    (at.div_ceil(8) == record.len()).then(|| bits.bytes())
 }
 
 unsafe fn record_read(record: *const u8, record_len: usize, lent: &Lent) -> u64 {
@@ -321,6 +735,22 @@ unsafe fn record_read(record: *const u8, record_len: usize, lent: &Lent) -> u64 
             record.pop();
             outcome = second::read_record(&record, lent.reduced_len);
         }
+        if fault("a record without hours is read") {
+            if let Some(record) = widened(&record) {
+                outcome = second::read_record(&record, lent.reduced_len);
+            }
+        }
+    }
+    if outcome.number == 10 && fault("hours are handed back though the answer is 10") {
+        outcome.hours = second::read_record(&record, 8192).hours;
+    }
+    for (name, too_long) in [
+        ("a record of 464 bytes is too long", record_len == 464),
+        ("a record over 272 bytes is too long", record_len > 272),
+    ] {
+        if too_long && fault(name) {
+            outcome = plain_refusal(11, 0);
+        }
     }
     lent.write(outcome, count)
 }
@@ -340,6 +770,7 @@ pub unsafe extern "C" fn ordersheet_analyse(
         reduced,
         reduced_len,
         sequences: None,
+        hours: None,
     };
     sheet_analysed(sheet, sheet_len, &lent)
 }
@@ -359,6 +790,7 @@ pub unsafe extern "C" fn ordersheet_read(
         reduced,
         reduced_len,
         sequences: None,
+        hours: None,
     };
     record_read(record, record_len, &lent)
 }
@@ -383,6 +815,7 @@ pub unsafe extern "C" fn ordersheet_test_sheet(
         reduced,
         reduced_len,
         sequences,
+        hours: None,
     };
     sheet_analysed(sheet, sheet_len, &lent)
 }
@@ -392,6 +825,8 @@ pub unsafe extern "C" fn ordersheet_test_pairs(
     count: u16,
     list: *const u16,
     list_len: usize,
+    hours: *const u16,
+    hours_len: usize,
     record: *mut u8,
     record_len: usize,
     reduced: *mut u8,
@@ -408,10 +843,19 @@ pub unsafe extern "C" fn ordersheet_test_pairs(
         reduced,
         reduced_len,
         sequences,
+        hours: None,
     };
-    let list = from_raw_parts(list, list_len);
-    let analysis = |record, reduced| second::analyse_pairs(count, list, record, reduced);
-    let mut outcome = analysed(analysis, list_len / 2, &lent);
+    if hours_len > 0 && fault("the hours list is written to") {
+        *(hours as *mut u16) ^= 1;
+    }
+    let asked = Asked {
+        count,
+        list: from_raw_parts(list, list_len).to_vec(),
+        hours: from_raw_parts(hours, hours_len).to_vec(),
+    };
+    let analysis =
+        |record, reduced| second::analyse_pairs(count, &asked.list, &asked.hours, record, reduced);
+    let mut outcome = analysed(analysis, Some(&asked), &lent);
     if count == 0 && outcome.number == 2 && fault("an odd list is refused for its count first") {
         outcome = plain_refusal(3, 0);
     }
@@ -424,6 +868,8 @@ pub unsafe extern "C" fn ordersheet_test_read(
     record_len: usize,
     reduced: *mut u8,
     reduced_len: usize,
+    hours: *mut u16,
+    hours_len: usize,
     forward: *mut u8,
     _forward_len: usize,
     reverse: *mut u8,
@@ -438,6 +884,7 @@ pub unsafe extern "C" fn ordersheet_test_read(
         reduced,
         reduced_len,
         sequences,
+        hours: Some((hours, hours_len)),
     };
     record_read(record, record_len, &lent)
 }

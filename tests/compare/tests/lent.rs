@@ -11,9 +11,9 @@ const SIGSEGV: i32 = 11;
 const PAST: &str = "COMPARE_READ_PAST";
 
 /// Reads a place of the lent list; in a child, since it may kill the process.
-fn read<T: Copy + PartialEq>(test: &str, list: &[T]) {
+fn read<T: Copy + PartialEq>(test: &str, list: &[T], lend: fn(&[T]) -> Lent<T>) {
     if let Ok(past) = env::var(PAST) {
-        let lent = Lent::new(list);
+        let lent = lend(list);
         let place = list.len() - 1 + past.parse::<usize>().unwrap();
         unsafe { lent.pointer().add(place).read_volatile() };
         return;
@@ -29,10 +29,21 @@ fn read<T: Copy + PartialEq>(test: &str, list: &[T]) {
 
 #[test]
 fn sheet() {
-    read("sheet", b"2\n0 1\n");
+    read("sheet", b"2\n0\n0\n0 1\n", Lent::new);
 }
 
 #[test]
 fn pair_list() {
-    read("pair_list", &[0_u16, 1, 2]);
+    read("pair_list", &[0_u16, 1, 2], Lent::new);
+}
+
+#[test]
+fn hours_list() {
+    read("hours_list", &[0_u16, 4095, 7], Lent::beside);
+}
+
+#[test]
+fn both_lists_at_once() {
+    let (list, hours) = (Lent::new(&[0_u16, 1]), Lent::beside(&[2_u16, 3, 4]));
+    assert!(list.is(&[0, 1]) && hours.is(&[2, 3, 4]));
 }

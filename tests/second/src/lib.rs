@@ -1,6 +1,6 @@
 //! The analysis of order sheets and pair lists, and the record reader, written
-//! from document 01 and request A.1 alone by the plainest search their words
-//! allow.
+//! from document 01 and requests A.1 and A.2 alone by the plainest search their
+//! words allow.
 
 pub mod cases;
 pub mod order;
@@ -8,15 +8,18 @@ pub mod record;
 pub mod sheet;
 pub mod tree;
 
+use sheet::Sheet;
 use tree::Tree;
 
 pub const MOST_JOBS: usize = 128;
 pub const MOST_ORDERS: usize = 4096;
-pub const LONGEST_SHEET: usize = 36_869;
-pub const LONGEST_RECORD: usize = 272;
+pub const MOST_HOURS: usize = 4095;
+pub const LONGEST_SHEET: usize = 37_637;
+pub const LONGEST_RECORD: usize = 464;
 
 /// An answer and what is written: on refusal (`number` other than 0) the lists
-/// are empty and the sequences all zeros. Reading a record leaves `record` empty.
+/// are empty, the sequences and hours all zeros. Reading a record leaves `record`
+/// empty.
 #[derive(Clone, Debug, PartialEq, Eq)]
 pub struct Outcome {
     pub number: u64,
@@ -27,6 +30,9 @@ pub struct Outcome {
     pub reduced: Vec<u8>,
     pub forward: [u8; MOST_JOBS],
     pub reverse: [u8; MOST_JOBS],
+    /// The hours of each job, 0 from the job count on. Reading a record hands
+    /// them back; an analysis does not.
+    pub hours: [u16; MOST_JOBS],
 }
 
 fn refused(number: u64, places: [usize; 4]) -> Outcome {
@@ -37,6 +43,7 @@ fn refused(number: u64, places: [usize; 4]) -> Outcome {
         reduced: Vec::new(),
         forward: [0; MOST_JOBS],
         reverse: [0; MOST_JOBS],
+        hours: [0; MOST_JOBS],
     }
 }
 
@@ -47,33 +54,51 @@ pub fn analyse_sheet(sheet: &[u8], record_area: usize, reduced_area: usize) -> O
     }
     match sheet::read(sheet) {
         Err(place) => refused(2, [place, 0, 0, 0]),
-        Ok((count, orders)) => from_refusal_3(count, &orders, record_area, reduced_area),
+        Ok(sheet) => from_refusal_3(&sheet, record_area, reduced_area),
     }
 }
 
-/// The analysis of a pair list, with areas of the two lengths lent.
-pub fn analyse_pairs(count: u16, list: &[u16], record_area: usize, reduced_area: usize) -> Outcome {
-    if list.len() % 2 == 1 {
-        return refused(2, [0; 4]);
-    }
-    let orders: Vec<(usize, usize)> = list
-        .chunks(2)
-        .map(|pair| (pair[0] as usize, pair[1] as usize))
-        .collect();
-    from_refusal_3(count as usize, &orders, record_area, reduced_area)
-}
-
-fn from_refusal_3(
-    count: usize,
-    orders: &[(usize, usize)],
+/// The analysis of a pair list and its hours, with areas of the two lengths
+/// lent.
+pub fn analyse_pairs(
+    count: u16,
+    list: &[u16],
+    hours: &[u16],
     record_area: usize,
     reduced_area: usize,
 ) -> Outcome {
+    if list.len() % 2 == 1 {
+        return refused(2, [0; 4]);
+    }
+    let listed = Sheet {
+        count: count as usize,
+        hours: hours.iter().map(|&hours| hours as usize).collect(),
+        orders: list
+            .chunks(2)
+            .map(|pair| (pair[0] as usize, pair[1] as usize))
+            .collect(),
+    };
+    from_refusal_3(&listed, record_area, reduced_area)
+}
+
+fn from_refusal_3(sheet: &Sheet, record_area: usize, reduced_area: usize) -> Outcome {
+    let Sheet {
+        count,
+        hours,
+        orders,
+    } = sheet;
+    let count = *count;
     if count == 0 || count > MOST_JOBS {
         return refused(3, [0; 4]);
     }
     if orders.len() > MOST_ORDERS {
         return refused(4, [0; 4]);
+    }
+    if hours.len() != count {
+        return refused(12, [0; 4]);
+    }
+    if let Some(job) = hours.iter().position(|&hours| hours > MOST_HOURS) {
+        return refused(13, [job, 0, 0, 0]);
     }
     if let Some(at) = orders.iter().position(|&(u, v)| u >= count || v >= count) {
         return refused(5, [at, 0, 0, 0]);
@@ -88,7 +113,7 @@ fn from_refusal_3(
     if let Some(places) = order::first_n(&before) {
         return refused(8, places);
     }
-    let tree = tree::of_order(&before).expect("an order without an N has a tree");
+    let tree = tree::of_order(&before, hours).expect("an order without an N has a tree");
     let record = record::lay_out(count, &tree);
     let reduced = order::reduced(&before);
     if record_area < record.len() {
@@ -97,7 +122,7 @@ fn from_refusal_3(
     if reduced_area < 2 * reduced.len() {
         return refused(10, [0; 4]);
     }
-    accepted(record.len(), &tree, &reduced, record)
+    accepted(count, record.len(), &tree, &reduced, record)
 }
 
 /// The record reader, with an area of the given length lent.
@@ -109,10 +134,11 @@ pub fn read_record(record: &[u8], reduced_area: usize) -> Outcome {
     if reduced_area < 2 * reduced.len() {
         return refused(10, [0; 4]);
     }
-    accepted(record.len(), &tree, &reduced, Vec::new())
+    accepted(count, record.len(), &tree, &reduced, Vec::new())
 }
 
 fn accepted(
+    count: usize,
     record_bytes: usize,
     tree: &Tree,
     reduced: &[(usize, usize)],
@@ -131,16 +157,16 @@ fn accepted(
             .iter()
             .flat_map(|&(u, v)| [u as u8, v as u8])
             .collect(),
-        forward: sequence(&tree.forward()),
-        reverse: sequence(&tree.reverse()),
+        forward: entries(&tree.forward()).map(|job| job as u8),
+        reverse: entries(&tree.reverse()).map(|job| job as u8),
+        hours: entries(&tree.hours(count)).map(|hours| hours as u16),
     }
 }
 
-fn sequence(jobs: &[usize]) -> [u8; MOST_JOBS] {
+/// The numbers, and zeros after them.
+fn entries(numbers: &[usize]) -> [usize; MOST_JOBS] {
     let mut entries = [0; MOST_JOBS];
-    for (entry, &job) in entries.iter_mut().zip(jobs) {
-        *entry = job as u8;
-    }
+    entries[..numbers.len()].copy_from_slice(numbers);
     entries
 }
 

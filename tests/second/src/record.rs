@@ -3,18 +3,24 @@
 use crate::tree::Tree;
 use crate::LONGEST_RECORD;
 
-fn field(value: usize) -> String {
-    assert!(value < 128);
-    format!("{value:07b}")
+/// Bits of a job number, a count or a number of children, and of hours.
+const NUMBER: usize = 7;
+const HOURS: usize = 12;
+
+fn field(value: usize, width: usize) -> String {
+    assert!(value < 1 << width);
+    format!("{value:0width$b}")
 }
 
 fn node_bits(tree: &Tree) -> String {
     let (kind, children) = match tree {
-        Tree::Leaf(job) => return "0".to_string() + &field(*job),
+        Tree::Leaf { job, hours } => {
+            return "0".to_string() + &field(*job, NUMBER) + &field(*hours, HOURS)
+        }
         Tree::Chain(children) => ("0", children),
         Tree::Side(children) => ("1", children),
     };
-    let mut bits = "1".to_string() + kind + &field(children.len() - 1);
+    let mut bits = "1".to_string() + kind + &field(children.len() - 1, NUMBER);
     for child in children {
         bits += &node_bits(child);
     }
@@ -23,7 +29,7 @@ fn node_bits(tree: &Tree) -> String {
 
 /// The bytes of a tree laid out, plain or not.
 pub fn lay_out(count: usize, tree: &Tree) -> Vec<u8> {
-    let mut bits = field(count - 1) + &node_bits(tree);
+    let mut bits = field(count - 1, NUMBER) + &node_bits(tree);
     while bits.len() % 8 != 0 {
         bits += "0";
     }
@@ -40,7 +46,7 @@ pub fn read(record: &[u8]) -> Option<(usize, Tree)> {
     }
     let bits: String = record.iter().map(|byte| format!("{byte:08b}")).collect();
     let mut rest = bits.as_str();
-    let count = take_number(&mut rest)? + 1;
+    let count = take_number(&mut rest, NUMBER)? + 1;
     let tree = take_node(&mut rest)?;
     let only_fill_follows = rest.len() < 8 && !rest.contains('1');
     if only_fill_follows && tree.is_plain(count) {
@@ -59,17 +65,20 @@ fn take<'a>(rest: &mut &'a str, length: usize) -> Option<&'a str> {
     Some(taken)
 }
 
-fn take_number(rest: &mut &str) -> Option<usize> {
-    usize::from_str_radix(take(rest, 7)?, 2).ok()
+fn take_number(rest: &mut &str, width: usize) -> Option<usize> {
+    usize::from_str_radix(take(rest, width)?, 2).ok()
 }
 
 /// A node and all below it, with no rule tested.
 fn take_node(rest: &mut &str) -> Option<Tree> {
     if take(rest, 1)? == "0" {
-        return Some(Tree::Leaf(take_number(rest)?));
+        return Some(Tree::Leaf {
+            job: take_number(rest, NUMBER)?,
+            hours: take_number(rest, HOURS)?,
+        });
     }
     let kind = take(rest, 1)?;
-    let children = take_number(rest)? + 1;
+    let children = take_number(rest, NUMBER)? + 1;
     let mut taken = Vec::new();
     for _ in 0..children {
         taken.push(take_node(rest)?);

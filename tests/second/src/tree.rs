@@ -4,7 +4,7 @@ use crate::order::{free, Before};
 
 #[derive(Clone, Debug, PartialEq, Eq, PartialOrd, Ord)]
 pub enum Tree {
-    Leaf(usize),
+    Leaf { job: usize, hours: usize },
     Chain(Vec<Tree>),
     Side(Vec<Tree>),
 }
@@ -12,7 +12,7 @@ pub enum Tree {
 impl Tree {
     pub fn children(&self) -> &[Tree] {
         match self {
-            Tree::Leaf(_) => &[],
+            Tree::Leaf { .. } => &[],
             Tree::Chain(children) | Tree::Side(children) => children,
         }
     }
@@ -20,7 +20,7 @@ impl Tree {
     /// Leaves from left to right.
     pub fn forward(&self) -> Vec<usize> {
         match self {
-            Tree::Leaf(job) => vec![*job],
+            Tree::Leaf { job, .. } => vec![*job],
             _ => self.children().iter().flat_map(Tree::forward).collect(),
         }
     }
@@ -28,7 +28,7 @@ impl Tree {
     /// The same with the children of every side group taken right to left.
     pub fn reverse(&self) -> Vec<usize> {
         match self {
-            Tree::Leaf(job) => vec![*job],
+            Tree::Leaf { job, .. } => vec![*job],
             Tree::Chain(children) => children.iter().flat_map(Tree::reverse).collect(),
             Tree::Side(children) => children.iter().rev().flat_map(Tree::reverse).collect(),
         }
@@ -46,8 +46,21 @@ impl Tree {
     pub fn groups(&self) -> usize {
         self.nodes()
             .iter()
-            .filter(|node| !matches!(node, Tree::Leaf(_)))
+            .filter(|node| !matches!(node, Tree::Leaf { .. }))
             .count()
+    }
+
+    /// The hours of each job below the count. Every job must stand on a leaf.
+    pub fn hours(&self, count: usize) -> Vec<usize> {
+        let nodes = self.nodes();
+        let of = |wanted: usize| {
+            let on_leaf = |node: &&Tree| match node {
+                Tree::Leaf { job, hours } if *job == wanted => Some(*hours),
+                _ => None,
+            };
+            nodes.iter().find_map(on_leaf).unwrap()
+        };
+        (0..count).map(of).collect()
     }
 
     pub fn smallest_job(&self) -> Option<usize> {
@@ -82,7 +95,7 @@ impl Tree {
     pub fn groups_have_two_or_more(&self) -> bool {
         self.nodes()
             .iter()
-            .all(|node| matches!(node, Tree::Leaf(_)) || node.children().len() >= 2)
+            .all(|node| matches!(node, Tree::Leaf { .. }) || node.children().len() >= 2)
     }
 
     pub fn jobs_below(&self, count: usize) -> bool {
@@ -140,31 +153,34 @@ impl Tree {
     }
 }
 
-/// The plain tree that means the order, if any does.
-pub fn of_order(before: &Before) -> Option<Tree> {
-    of_jobs(before, (0..before.len()).collect())
+/// The plain tree that means the order, if any does, with the hours of each job.
+pub fn of_order(before: &Before, hours: &[usize]) -> Option<Tree> {
+    of_jobs(before, hours, (0..before.len()).collect())
 }
 
 /// The plain tree of the order among some jobs, which ascend.
-fn of_jobs(before: &Before, jobs: Vec<usize>) -> Option<Tree> {
+fn of_jobs(before: &Before, hours: &[usize], jobs: Vec<usize>) -> Option<Tree> {
     if jobs.len() == 1 {
-        return Some(Tree::Leaf(jobs[0]));
+        return Some(Tree::Leaf {
+            job: jobs[0],
+            hours: hours[jobs[0]],
+        });
     }
     let parts = side_parts(before, &jobs);
     if parts.len() >= 2 {
-        return Some(Tree::Side(of_each(before, parts)?));
+        return Some(Tree::Side(of_each(before, hours, parts)?));
     }
     let parts = chain_parts(before, &jobs);
     if parts.len() >= 2 {
-        return Some(Tree::Chain(of_each(before, parts)?));
+        return Some(Tree::Chain(of_each(before, hours, parts)?));
     }
     None
 }
 
-fn of_each(before: &Before, parts: Vec<Vec<usize>>) -> Option<Vec<Tree>> {
+fn of_each(before: &Before, hours: &[usize], parts: Vec<Vec<usize>>) -> Option<Vec<Tree>> {
     parts
         .into_iter()
-        .map(|part| of_jobs(before, part))
+        .map(|part| of_jobs(before, hours, part))
         .collect()
 }
 

@@ -1,20 +1,49 @@
-//! What document 01 and request A.1 say of single sheets, lists and records.
+//! What document 01 and requests A.1 and A.2 say of single sheets, lists and
+//! records.
 
-use second::cases::{cases, sheet, widest};
+use second::cases::{cases, sheet, widest, zeros};
 use second::{
-    analyse_pairs, analyse_sheet, packed, printed, read_record, Outcome, LONGEST_SHEET, MOST_ORDERS,
+    analyse_pairs, analyse_sheet, packed, printed, read_record, Outcome, LONGEST_RECORD,
+    LONGEST_SHEET, MOST_ORDERS,
 };
 
-const ENOUGH: (usize, usize) = (272, 8192);
+const ENOUGH: (usize, usize) = (464, 8192);
 
 fn analysed(shown: &str) -> Outcome {
     analyse_sheet(&sheet(shown), ENOUGH.0, ENOUGH.1)
+}
+
+/// The same with an hours line of 0 for each job put in.
+fn zero_analysed(shown: &str) -> Outcome {
+    analysed(&zeros(shown))
+}
+
+fn listed(count: u16, list: &[u16], hours: &[u16]) -> Outcome {
+    analyse_pairs(count, list, hours, ENOUGH.0, ENOUGH.1)
 }
 
 fn refused(outcome: &Outcome, number: u64, places: [u64; 4]) {
     assert_eq!((outcome.number, outcome.places), (number, places));
     assert!(outcome.record.is_empty() && outcome.reduced.is_empty());
     assert_eq!((outcome.forward, outcome.reverse), ([0; 128], [0; 128]));
+    assert_eq!(outcome.hours, [0; 128]);
+}
+
+/// Refusals 2, each at its place.
+fn broken(places: &[(&str, u64)]) {
+    for &(shown, place) in places {
+        refused(&analysed(shown), 2, [place, 0, 0, 0]);
+    }
+}
+
+/// The same with an hours line of 0 for each job put in after the count line,
+/// ahead of the place.
+fn zero_broken(places: &[(&str, u64)]) {
+    for &(shown, place) in places {
+        let with_hours = zeros(shown);
+        let put_in = (with_hours.len() - shown.len()) as u64;
+        broken(&[(&with_hours, place + put_in)]);
+    }
 }
 
 #[test]
@@ -27,24 +56,30 @@ fn every_case() {
 
 #[test]
 fn the_printed_sample_to_the_byte() {
-    let text = "accepted 10 4 3\nrecord 0981810060404080c100\n0 1\n0 2\n1 3\n2 3\n\
-                forward 0 1 2 3 4\nreverse 4 0 2 1 3\n";
-    assert_eq!(printed(&sheet("5/0 1/0 2/1 3/2 3/0 3/")), text.as_bytes());
-    assert_eq!(printed(&sheet("4/0 2/1 2/1 3/")), b"refused 8 0 1 2 3\n");
+    let text = "accepted 17 4 3\nrecord 0981810000060404000080000c00010000\n\
+                0 1\n0 2\n1 3\n2 3\nforward 0 1 2 3 4\nreverse 4 0 2 1 3\n";
+    let sample = sheet("5/0/0/0/0/0/0 1/0 2/1 3/2 3/0 3/");
+    assert_eq!(printed(&sample), text.as_bytes());
+    let crossed = sheet("4/1/2/3/4/0 2/1 2/1 3/");
+    assert_eq!(printed(&crossed), b"refused 8 0 1 2 3\n");
 }
 
 #[test]
 fn records_of_accepted_cases_read_back() {
     for shown in [
-        "5/0 1/0 2/1 3/2 3/0 3/",
-        "128/",
-        "1/",
-        "2/1 0/",
-        "2/",
-        "3/2 0/",
+        &zeros("5/0 1/0 2/1 3/2 3/0 3/"),
+        "5/8/40/4095/1/0/0 1/0 2/1 3/2 3/0 3/",
+        &zeros("128/"),
+        &("128/".to_string() + &"4095/".repeat(128)),
+        "1/0/",
+        "1/4095/",
+        "2/1/4095/1 0/",
+        "2/2048/7/",
+        "3/1/2/3/2 0/",
         &widest(),
     ] {
         let outcome = analysed(shown);
+        assert_eq!(outcome.number, 0);
         let back = read_record(&outcome.record, ENOUGH.1);
         assert_eq!(
             back,
@@ -58,18 +93,27 @@ fn records_of_accepted_cases_read_back() {
 
 #[test]
 fn seen_orders_that_are_no_n() {
-    let outcome = analysed("5/0 2/1 2/1 3/0 4/4 3/1 4/");
+    let outcome = zero_analysed("5/0 2/1 2/1 3/0 4/4 3/1 4/");
     assert_eq!(outcome.reduced, [0, 2, 0, 4, 1, 2, 1, 4, 4, 3]);
     assert_eq!(outcome.forward[..5], [0, 1, 2, 4, 3]);
     assert_eq!(outcome.reverse[..5], [1, 0, 4, 3, 2]);
 }
 
+/// The longest sheet with these line ends: 128 jobs, hours of four digits, as
+/// many orders as there may be but some left out.
+fn long(end: &str, orders_left_out: usize) -> String {
+    format!("128{end}")
+        + &format!("4095{end}").repeat(128)
+        + &format!("126 127{end}").repeat(MOST_ORDERS - orders_left_out)
+}
+
 #[test]
 fn sheet_length() {
-    assert_eq!(LONGEST_SHEET, 36_869);
-    let longest = "128</".to_string() + &"126 127</".repeat(MOST_ORDERS);
+    assert_eq!(LONGEST_SHEET, 37_637);
+    let longest = long("</", 0);
     assert_eq!(longest.len(), LONGEST_SHEET);
     assert_eq!(analysed(&longest).number, 0);
+    assert_eq!(analysed(&longest.replacen("126", "12", 1)).number, 0);
     for more in ["x", "<", "/", "</", "1 2/"] {
         let too_long = longest.clone() + more;
         refused(&analysed(&too_long), 1, [0; 4]);
@@ -78,40 +122,42 @@ fn sheet_length() {
     // Broken and too long, then broken and as long as the longest.
     refused(&analysed(&"<".repeat(LONGEST_SHEET + 1)), 1, [0; 4]);
     refused(&analysed(&"<".repeat(LONGEST_SHEET)), 2, [0; 4]);
-    let broken = "126 127</".repeat(MOST_ORDERS) + "1 20<";
-    assert_eq!(broken.len(), LONGEST_SHEET);
-    refused(&analysed(&broken), 2, [3, 0, 0, 0]);
+    refused(&analysed(&("128</".to_string() + &longest)), 1, [0; 4]);
 
     let last = LONGEST_SHEET as u64;
-    let all_but_one = "126 127</".repeat(MOST_ORDERS - 1);
+    let all_but_one = long("</", 1);
     for (count, order, place) in [
         ("128</", "126 127<", last - 1),
         ("128</", "126 1271/", last - 2),
         ("128</", "126 127<<", last - 1),
         ("128</", "126 127< ", last - 1),
-        ("999</", "12 1271<", last - 3),
-        ("99</", "126 127</1", last),
-        ("99</", "126 127</<", last - 1),
-        ("99/", "126 127</1<", last - 1),
+        ("128/", "126 127</1", last),
+        ("128/", "126 127</<", last - 1),
     ] {
-        let shown = count.to_string() + &all_but_one + order;
+        let shown = all_but_one.replacen("128</", count, 1) + order;
         refused(&analysed(&shown), 2, [place, 0, 0, 0]);
     }
+    // Longer for other counts, though no sheet of them is accepted.
+    let hours = "999</".to_string() + &"9999</".repeat(999);
+    let orders = (LONGEST_SHEET - hours.len()) / 9;
+    let shown = hours.clone() + &"126 127</".repeat(orders);
+    refused(&analysed(&shown), 3, [0; 4]);
+    refused(&analysed(&(shown + "126 127</")), 1, [0; 4]);
 }
 
 /// The longest sheet with line feeds alone, and with some carriage returns.
 #[test]
 fn shorter_line_ends() {
-    let shown = "128/".to_string() + &"126 127/".repeat(MOST_ORDERS);
-    assert_eq!(shown.len(), 32_772);
+    let shown = long("/", 0);
+    assert_eq!(shown.len(), 33_412);
     let outcome = analysed(&shown);
     assert_eq!(outcome.number, 0);
-    for carriage_returns in [1, 2, MOST_ORDERS, MOST_ORDERS + 1] {
+    for carriage_returns in [1, 2, 128, 129, 130, MOST_ORDERS, MOST_ORDERS + 129] {
         let shown = shown.replacen('/', "</", carriage_returns);
-        assert_eq!(shown.len(), 32_772 + carriage_returns);
+        assert_eq!(shown.len(), 33_412 + carriage_returns);
         assert_eq!(analysed(&shown), outcome);
     }
-    for (more, place) in [("1", 32_773), ("<", 32_772), ("/", 32_772), ("x", 32_772)] {
+    for (more, place) in [("1", 33_413), ("<", 33_412), ("/", 33_412), ("x", 33_412)] {
         refused(&analysed(&(shown.clone() + more)), 2, [place, 0, 0, 0]);
     }
     refused(&analysed(&(shown + "1 2/")), 4, [0; 4]);
@@ -119,11 +165,16 @@ fn shorter_line_ends() {
 
 #[test]
 fn line_form() {
-    for (shown, place) in [
+    broken(&[
         ("/", 0),
         ("-1/", 0),
         ("1234/", 3),
         ("00/", 1),
+        ("5 /", 1),
+        ("5 1/", 1),
+        ("0/x", 2),
+    ]);
+    zero_broken(&[
         ("5//", 2),
         ("5/ 0 1/", 2),
         ("5/0/", 3),
@@ -133,24 +184,125 @@ fn line_form() {
         ("5/0 1 2/", 5),
         ("5/0 01/", 5),
         ("5/0 1000/", 7),
+        ("5/1000 0/", 5),
         ("5/0 1/2 3", 9),
         ("5/0 1/2", 7),
         ("5/0 1/2 ", 8),
-        ("5 /", 1),
-        ("5 1/", 1),
         ("5/0\t1/", 3),
-        ("0/x", 2),
         ("999/9 x", 6),
-    ] {
-        refused(&analysed(shown), 2, [place, 0, 0, 0]);
+    ]);
+    refused(&zero_analysed("999/999 999/"), 3, [0; 4]);
+    refused(&zero_analysed("128/127 128/"), 5, [0; 4]);
+}
+
+#[test]
+fn hours_lines() {
+    broken(&[
+        ("5/", 2),
+        ("5//", 2),
+        ("5/ ", 2),
+        ("5/x", 2),
+        ("5/-1/", 2),
+        ("5/0", 3),
+        ("5/0 ", 3),
+        ("5/0x", 3),
+        ("5/0/", 4),
+        ("5/0//", 4),
+        ("5/0 1/", 3),
+        ("5/00/", 3),
+        ("5/01/", 3),
+        ("5/0000/", 3),
+        ("5/12345/", 6),
+        ("5/99999/", 6),
+        ("5/9999 /", 6),
+        ("5/9999x", 6),
+        ("5/1/2/3/4/", 10),
+        ("5/1/2/3/4/5", 11),
+        ("5/1/2/3/4/0 1/", 11),
+        ("5/1/2/3/4/5/6/", 13),
+        ("5/1/2/3/4/5/1234/", 15),
+        ("5/1/2/3/4/5/0 1/6/", 17),
+        ("0/0/", 3),
+        ("0//", 2),
+        ("1/4095/0/", 8),
+        ("129/0 1/", 5),
+        ("999/", 4),
+    ]);
+    for count in [0, 1, 5, 127, 128, 129, 999] {
+        let too_few = format!("{count}/") + &"7/".repeat(count - count.min(1));
+        let enough = zeros(&format!("{count}/"));
+        let length = enough.len() as u64;
+        if count > 0 {
+            broken(&[
+                (&too_few, length - 2),
+                (&(too_few.clone() + "0 1/"), length - 1),
+            ]);
+        }
+        broken(&[(&(enough.clone() + "0/"), length + 1)]);
+        broken(&[(&(enough.clone() + "0 0"), length + 3)]);
+        let outcome = analysed(&(enough + "0 1/"));
+        let number = match count {
+            0 | 129 | 999 => 3,
+            1 => 5,
+            _ => 0,
+        };
+        assert_eq!(outcome.number, number);
     }
-    refused(&analysed("999/999 999/"), 3, [0; 4]);
-    refused(&analysed("128/127 128/"), 5, [0; 4]);
+}
+
+#[test]
+fn hours_above_the_most() {
+    for (shown, job) in [
+        ("1/4096/", 0),
+        ("1/9999/", 0),
+        ("3/4095/4096/0/", 1),
+        ("3/4095/4095/5000/", 2),
+        ("3/4096/9999/4097/", 0),
+        ("2/0/4096/0 2/", 1),
+        ("2/0/4096</0 0/", 1),
+        ("2/0/4096/0 1/1 0/", 1),
+    ] {
+        refused(&analysed(shown), 13, [job, 0, 0, 0]);
+    }
+    assert_eq!(analysed("3/4095/4095/4095/").number, 0);
+    refused(&analysed("0/"), 3, [0; 4]);
+    let off = |count: usize| format!("{count}/") + &"9999/".repeat(count);
+    refused(&analysed(&off(129)), 3, [0; 4]);
+    refused(&analysed(&off(999)), 3, [0; 4]);
+    refused(&analysed(&(off(2) + &"5 5/".repeat(4097))), 4, [0; 4]);
+    refused(&analyse_sheet(&sheet(&off(2)), 0, 0), 13, [0; 4]);
+    let last = "128/".to_string() + &"4095/".repeat(127) + "4096/";
+    refused(&analysed(&last), 13, [127, 0, 0, 0]);
+}
+
+/// Number, places, reduced orders and sequences are the same for any hours.
+#[test]
+fn nothing_else_depends_on_hours() {
+    for orders in [
+        "",
+        "0 1/1 2/",
+        "0 2/1 2/1 3/",
+        "0 1/1 0/",
+        "3 0/3 1/0 2/1 2/",
+        "9 9/",
+    ] {
+        let expected = zero_analysed(&("4/".to_string() + orders));
+        for hours in ["1/2/3/4/", "4095/0/4095/0/", "4095/4095/4095/4095/"] {
+            let outcome = analysed(&format!("4/{hours}{orders}"));
+            let same = Outcome {
+                record: outcome.record.clone(),
+                hours: outcome.hours,
+                ..expected.clone()
+            };
+            assert_eq!(outcome, same);
+            assert_eq!(outcome.record == expected.record, outcome.number != 0);
+        }
+    }
 }
 
 #[test]
 fn carriage_returns() {
-    for (shown, place) in [
+    broken(&[
         ("<", 0),
         ("</", 0),
         ("<5/", 0),
@@ -165,6 +317,26 @@ fn carriage_returns() {
         ("1234</", 3),
         ("05</", 1),
         ("5 </", 1),
+        ("5<0 1<", 2),
+        ("0</x", 3),
+    ]);
+    broken(&[
+        ("5/<", 2),
+        ("5/</", 2),
+        ("5</<", 3),
+        ("5</0<", 5),
+        ("5</0<<", 5),
+        ("5</0</", 6),
+        ("5</0<0/", 5),
+        ("5</4095<", 8),
+        ("5</4095</", 9),
+        ("5</40951</", 7),
+        ("5/4095</<", 8),
+        ("1/40<95/", 5),
+        ("1/7</<", 5),
+        ("1/7</7</", 6),
+    ]);
+    zero_broken(&[
         ("5/<", 2),
         ("5/</", 2),
         ("5/<0 1/", 2),
@@ -186,27 +358,24 @@ fn carriage_returns() {
         ("5</0 1</2 ", 10),
         ("5</0 1</2 3", 11),
         ("5</0 1</2 3<", 12),
-        ("5<0 1<", 2),
-        ("0</x", 3),
         ("999</9 x</", 7),
-    ] {
-        refused(&analysed(shown), 2, [place, 0, 0, 0]);
-    }
+    ]);
     refused(&analysed("0</"), 3, [0; 4]);
-    refused(&analysed("999</999 999/"), 3, [0; 4]);
-    refused(&analysed("2</1 1</0 2/"), 5, [1, 0, 0, 0]);
-    refused(&analysed("2/0 1</1 1</"), 6, [1, 0, 0, 0]);
-    refused(&analysed("3/1 2</2 1/"), 7, [1, 0, 0, 0]);
-    refused(&analysed("4</0 2/1 2</1 3/"), 8, [0, 1, 2, 3]);
+    refused(&zero_analysed("999</999 999/"), 3, [0; 4]);
+    refused(&zero_analysed("2</1 1</0 2/"), 5, [1, 0, 0, 0]);
+    refused(&zero_analysed("2/0 1</1 1</"), 6, [1, 0, 0, 0]);
+    refused(&zero_analysed("3/1 2</2 1/"), 7, [1, 0, 0, 0]);
+    refused(&zero_analysed("4</0 2/1 2</1 3/"), 8, [0, 1, 2, 3]);
+    refused(&analysed("2</4096</0</"), 13, [0; 4]);
 }
 
 #[test]
 fn every_mixture_of_line_ends() {
     for shown in [
-        "5/0 1/0 2/1 3/2 3/0 3/",
-        "3/1 2/2 1/",
-        "4/0 2/1 2/1 3/",
-        "5/",
+        "5/1/20/300/4000/0/0 1/0 2/1 3/2 3/0 3/",
+        "3/0/0/0/1 2/2 1/",
+        "4/9/8/7/6/0 2/1 2/1 3/",
+        "2/4096/0/",
     ] {
         let parts: Vec<&str> = shown.split('/').collect();
         let lines = parts.len() - 1;
@@ -224,109 +393,140 @@ fn every_mixture_of_line_ends() {
 #[test]
 fn checking_order() {
     // Off the list comes ahead of a self order, that ahead of a circle.
-    refused(&analysed("3/1 1/0 1/1 0/2 3/"), 5, [3, 0, 0, 0]);
-    refused(&analysed("3/0 1/1 0/2 2/1 1/"), 6, [2, 0, 0, 0]);
-    refused(&analysed("6/0 2/1 2/1 3/5 4/4 5/"), 7, [4, 0, 0, 0]);
+    refused(&zero_analysed("3/1 1/0 1/1 0/2 3/"), 5, [3, 0, 0, 0]);
+    refused(&zero_analysed("3/0 1/1 0/2 2/1 1/"), 6, [2, 0, 0, 0]);
+    refused(&zero_analysed("6/0 2/1 2/1 3/5 4/4 5/"), 7, [4, 0, 0, 0]);
     // A job after a circle is not before itself.
-    refused(&analysed("4/3 2/2 3/2 0/1 2/"), 7, [2, 0, 0, 0]);
+    refused(&zero_analysed("4/3 2/2 3/2 0/1 2/"), 7, [2, 0, 0, 0]);
     refused(
-        &analysed(&("129/".to_string() + &"0 0/".repeat(4097))),
+        &zero_analysed(&("129/".to_string() + &"0 0/".repeat(4097))),
         3,
         [0; 4],
     );
     refused(
-        &analysed(&("2/".to_string() + &"9 9/".repeat(4097))),
+        &analysed(&("2/9999/0/".to_string() + &"9 9/".repeat(4097))),
         4,
         [0; 4],
     );
     refused(
-        &analysed(&("2/".to_string() + &"0 1/".repeat(4097) + "x")),
+        &analysed(&("2/1/4096/".to_string() + &"0 1/".repeat(4097) + "x")),
         2,
-        [16_390, 0, 0, 0],
+        [16_397, 0, 0, 0],
     );
     refused(
-        &analysed(&("2</".to_string() + &"0 1</".repeat(4097) + "<")),
+        &analysed(&("2</1</4096/".to_string() + &"0 1</".repeat(4097) + "<")),
         2,
-        [20_488, 0, 0, 0],
+        [20_496, 0, 0, 0],
     );
 }
 
 #[test]
 fn areas() {
-    let sample = sheet("5/0 1/0 2/1 3/2 3/0 3/");
-    for record_area in 0..12 {
+    let sample = sheet("5/1/2/3/4/5/0 1/0 2/1 3/2 3/0 3/");
+    for record_area in 0..20 {
         for reduced_area in 0..10 {
             let outcome = analyse_sheet(&sample, record_area, reduced_area);
-            if record_area < 10 {
+            if record_area < 17 {
                 refused(&outcome, 9, [0; 4]);
             } else if reduced_area < 8 {
                 refused(&outcome, 10, [0; 4]);
             } else {
-                assert_eq!((outcome.number, outcome.places), (0, [10, 4, 3, 0]));
-                assert_eq!(outcome.record.len(), 10);
+                assert_eq!((outcome.number, outcome.places), (0, [17, 4, 3, 0]));
+                assert_eq!(outcome.record.len(), 17);
                 assert_eq!(outcome.reduced, [0, 1, 0, 2, 1, 3, 2, 3]);
             }
         }
     }
     // Refusals tested ahead of 9 come whatever the areas.
     refused(
-        &analyse_sheet(&sheet("4/0 2/1 2/1 3/"), 0, 0),
+        &analyse_sheet(&sheet("4/0/0/0/0/0 2/1 2/1 3/"), 0, 0),
         8,
         [0, 1, 2, 3],
     );
-    let record = [0x03, 0x01, 0x01, 0x00];
+    refused(&analyse_pairs(1, &[], &[], 0, 0), 12, [0; 4]);
+    let record = [0x03, 0x01, 0x01, 0xff, 0xf0, 0x08, 0x01];
     refused(&read_record(&record, 1), 10, [0; 4]);
-    refused(&read_record(&record[..3], 1), 11, [0; 4]);
+    refused(&read_record(&record[..6], 1), 11, [0; 4]);
     let read = read_record(&record, 2);
     assert_eq!(
         (read.number, read.places, read.reduced),
-        (0, [4, 1, 1, 0], vec![1, 0])
+        (0, [7, 1, 1, 0], vec![1, 0])
     );
+    assert_eq!(read.hours[..2], [0x801, 4095]);
+    assert_eq!(read.hours[2..], [0; 126]);
 }
 
 #[test]
 fn pair_lists() {
-    refused(&analyse_pairs(0, &[7], 0, 0), 2, [0; 4]);
-    refused(&analyse_pairs(5, &[0, 1, 2], 272, 8192), 2, [0; 4]);
-    refused(&analyse_pairs(0, &[], 272, 8192), 3, [0; 4]);
-    refused(&analyse_pairs(u16::MAX, &[], 272, 8192), 3, [0; 4]);
-    refused(&analyse_pairs(2, &[1; 8194], 272, 8192), 4, [0; 4]);
-    refused(
-        &analyse_pairs(2, &[0, 1, 1, 1, 65_535, 0], 272, 8192),
-        5,
-        [2, 0, 0, 0],
-    );
-    refused(
-        &analyse_pairs(2, &[0, 1, 1, 1, 0, 0], 272, 8192),
-        6,
-        [1, 0, 0, 0],
-    );
+    refused(&analyse_pairs(0, &[7], &[9999], 0, 0), 2, [0; 4]);
+    refused(&listed(5, &[0, 1, 2], &[0; 5]), 2, [0; 4]);
+    refused(&listed(0, &[], &[]), 3, [0; 4]);
+    refused(&listed(u16::MAX, &[], &[]), 3, [0; 4]);
+    refused(&listed(129, &[], &[0; 129]), 3, [0; 4]);
+    refused(&listed(2, &[1; 8194], &[0; 2]), 4, [0; 4]);
+    let hours = [0; 2];
+    let list = [0, 1, 1, 1, 65_535, 0];
+    refused(&listed(2, &list, &hours), 5, [2, 0, 0, 0]);
+    let list = [0, 1, 1, 1, 0, 0];
+    refused(&listed(2, &list, &hours), 6, [1, 0, 0, 0]);
     let list = [0, 1, 0, 2, 1, 3, 2, 3, 0, 3];
     assert_eq!(
-        analyse_pairs(5, &list, 272, 8192),
-        analysed("5/0 1/0 2/1 3/2 3/0 3/")
+        listed(5, &list, &[8, 40, 4095, 1, 0]),
+        analysed("5/8/40/4095/1/0/0 1/0 2/1 3/2 3/0 3/")
     );
+}
+
+#[test]
+fn hours_lists() {
+    for count in [1, 2, 127, 128] {
+        for length in (0..=140).filter(|&length| length != count) {
+            refused(&listed(count as u16, &[], &vec![0; length]), 12, [0; 4]);
+            // Ahead of 13, 5 and 6, after 4 and 2.
+            let hours = vec![4096; length];
+            refused(&listed(count as u16, &[500, 500], &hours), 12, [0; 4]);
+            refused(&listed(count as u16, &[0; 8194], &hours), 4, [0; 4]);
+            refused(&listed(count as u16, &[0; 3], &hours), 2, [0; 4]);
+        }
+        assert_eq!(listed(count as u16, &[], &vec![4095; count]).number, 0);
+        for job in 0..count {
+            let mut hours = vec![4095; count];
+            hours[job] = 4096;
+            let place = [job as u64, 0, 0, 0];
+            refused(&listed(count as u16, &[500, 500], &hours), 13, place);
+            hours[job..].fill(u16::MAX);
+            refused(&listed(count as u16, &[0, 0], &hours), 13, place);
+        }
+    }
+    for count in [0, 129, 256, u16::MAX] {
+        refused(&listed(count, &[], &[4096]), 3, [0; 4]);
+    }
 }
 
 #[test]
 fn packing() {
     assert_eq!(packed(8, [0, 1, 2, 3]), 0x0003_0200_0100_0008);
-    assert_eq!(packed(0, [272, 4096, 127, 0]), 0x0000_7f10_0001_1000);
+    assert_eq!(packed(0, [464, 4096, 127, 0]), 0x0000_7f10_0001_d000);
     assert_eq!(packed(2, [32_772, 0, 0, 0]), 0x80_0402);
-    assert_eq!(packed(2, [36_869, 0, 0, 0]), 0x90_0502);
+    assert_eq!(packed(2, [37_637, 0, 0, 0]), 0x93_0502);
+    assert_eq!(packed(13, [127, 0, 0, 0]), 0x7f0d);
 }
 
 #[test]
 fn longest_record() {
     // 127 groups of two, chain and side in turn, all nested.
-    let mut shown = "128/".to_string();
+    let mut shown = "128/".to_string() + &"4095/".repeat(128);
     for u in (0..127).step_by(2) {
         for v in u + 1..128 {
             shown += &format!("{u} {v}/");
         }
     }
     let outcome = analysed(&shown);
-    assert_eq!((outcome.number, outcome.places), (0, [272, 127, 127, 0]));
+    assert_eq!(LONGEST_RECORD, 464);
+    assert_eq!((outcome.number, outcome.places), (0, [464, 127, 127, 0]));
+    let mut longer = outcome.record.clone();
+    longer.push(0);
+    refused(&read_record(&longer, 254), 11, [0; 4]);
+    refused(&read_record(&longer[..463], 254), 11, [0; 4]);
     let back = read_record(&outcome.record, 254);
     assert_eq!(
         back,
@@ -335,4 +535,32 @@ fn longest_record() {
             ..outcome
         }
     );
+}
+
+/// Each job's hours stand on its leaf, the most significant bit first.
+#[test]
+fn hours_of_each_leaf() {
+    // 3/5/6/7/2 0/ is a side group of the chain 2, 0 and of 1.
+    let bits = "0000010".to_string()
+        + "110000001"
+        + "100000001"
+        + "00000010"
+        + "000000000111"
+        + "00000000"
+        + "000000000101"
+        + "00000001"
+        + "000000000110"
+        + "000";
+    let outcome = analysed("3/5/6/7/2 0/");
+    let written: String = outcome.record.iter().map(|b| format!("{b:08b}")).collect();
+    assert_eq!(written, bits);
+    for hours in 0..4096 {
+        let record = listed(1, &[], &[hours]).record;
+        assert_eq!(record, ((hours as u32) << 5).to_be_bytes());
+        assert_eq!(read_record(&record, 0).hours[0], hours);
+    }
+    // Older records, without hours.
+    for record in [&[0, 0][..], &[3, 1, 1, 0], &[3, 0x81, 0, 1]] {
+        refused(&read_record(record, 8192), 11, [0; 4]);
+    }
 }

@@ -3,12 +3,18 @@
 use second::order::{before, first_n, free, reduced, Before};
 use second::tree::{of_order, Tree};
 use second::{analyse_pairs, read_record, record, sheet};
-use std::collections::{BTreeMap, BTreeSet, HashSet};
+use std::collections::{BTreeMap, HashSet};
 
-/// Every tree on the jobs, plain or not.
+/// Different hours for each job, 0 and the most among them.
+const HOURS: [usize; 5] = [4095, 0, 2048, 1, 1234];
+
+/// Every tree on the jobs, plain or not, with these hours.
 fn all_trees(jobs: &[usize]) -> Vec<Tree> {
     if jobs.len() == 1 {
-        return vec![Tree::Leaf(jobs[0])];
+        return vec![Tree::Leaf {
+            job: jobs[0],
+            hours: HOURS[jobs[0]],
+        }];
     }
     let lists = all_lists(jobs).into_iter().filter(|list| list.len() >= 2);
     lists
@@ -96,7 +102,7 @@ fn one_plain_tree_for_each_order_a_tree_means() {
         for (meaning, plain) in means {
             assert_eq!(plain.len(), 1);
             assert_eq!(first_n(&meaning), None);
-            assert_eq!(of_order(&meaning), Some(plain[0].clone()));
+            assert_eq!(of_order(&meaning, &HOURS), Some(plain[0].clone()));
         }
     }
 }
@@ -112,36 +118,74 @@ fn reader_takes_the_records_of_plain_trees_alone() {
     }
 }
 
+/// The bits of a record of so many jobs that are no hours'.
+fn bits_of_no_hours(record: &[u8], count: usize) -> Vec<usize> {
+    let bit = |at: usize| record[at / 8] >> (7 - at % 8) & 1;
+    let mut bits: Vec<usize> = (0..7).collect();
+    let (mut at, mut leaves) = (7, 0);
+    while leaves < count {
+        let (width, next) = if bit(at) == 1 { (9, 9) } else { (8, 20) };
+        leaves += (bit(at) == 0) as usize;
+        bits.extend(at..at + width);
+        at += next;
+    }
+    bits.extend(at..8 * record.len());
+    bits
+}
+
+/// A bit that is no hours' gives another of the records with these hours or
+/// none; a bit of hours gives the same tree with these other hours.
 #[test]
-fn reader_on_every_string_of_up_to_two_bytes_and_every_bit_flipped() {
-    let mut records = BTreeSet::new();
+fn reader_on_every_bit_flipped() {
+    let mut records = BTreeMap::new();
     for count in 1..=4 {
         for tree in all_trees(&jobs(count)) {
             if tree.is_plain(count) {
-                records.insert(record::lay_out(count, &tree));
+                records.insert(record::lay_out(count, &tree), count);
             }
         }
     }
     let taken = |bytes: &[u8]| read_record(bytes, 8192).number == 0;
     assert!(!taken(&[]));
-    for first in 0..=255 {
-        assert_eq!(taken(&[first]), records.contains(&vec![first]));
-        for second in 0..=255 {
-            let bytes = [first, second];
-            assert_eq!(taken(&bytes), records.contains(&bytes.to_vec()));
-        }
-    }
-    // A flipped bit of the count cannot give a record of more than 4 jobs: the
-    // leaves stay as many as they were.
-    for record in &records {
+    for (record, &count) in &records {
+        let of_no_hours = bits_of_no_hours(record, count);
+        assert_eq!(8 * record.len() - of_no_hours.len(), 12 * count);
+        let read = read_record(record, 8192);
         for bit in 0..8 * record.len() {
             let mut bytes = record.clone();
             bytes[bit / 8] ^= 0x80 >> (bit % 8);
-            assert_eq!(taken(&bytes), records.contains(&bytes));
+            let changed = read_record(&bytes, 8192);
+            if of_no_hours.contains(&bit) {
+                assert_eq!(changed.number == 0, records.contains_key(&bytes));
+                continue;
+            }
+            let differs = |&job: &usize| changed.hours[job] != read.hours[job];
+            let differing: Vec<usize> = (0..128).filter(differs).collect();
+            assert_eq!(differing.len(), 1);
+            let job = differing[0];
+            assert!((changed.hours[job] ^ read.hours[job]).is_power_of_two());
+            assert_eq!(changed.places, read.places);
+            assert_eq!(changed.reduced, read.reduced);
+            assert_eq!(changed.forward, read.forward);
+            assert_eq!(changed.reverse, read.reverse);
         }
         for length in 0..record.len() {
             assert!(!taken(&record[..length]));
         }
+    }
+}
+
+#[test]
+fn reader_on_every_string_of_up_to_two_bytes_and_longer_zeros() {
+    let taken = |bytes: &[u8]| read_record(bytes, 8192).number == 0;
+    for first in 0..=255 {
+        assert!(!taken(&[first]));
+        for second in 0..=255 {
+            assert!(!taken(&[first, second]));
+        }
+    }
+    for length in 0..600 {
+        assert_eq!(taken(&vec![0; length]), length == 4);
     }
 }
 
@@ -184,7 +228,8 @@ fn every_relation_on_up_to_four_jobs() {
                 .iter()
                 .flat_map(|&(u, v)| [u as u16, v as u16])
                 .collect();
-            let outcome = analyse_pairs(count as u16, &list, 272, 8192);
+            let hours = HOURS.map(|hours| hours as u16);
+            let outcome = analyse_pairs(count as u16, &list, &hours[..count], 464, 8192);
 
             let table = followed_on(count, &orders);
             assert_eq!(before(count, &orders), table);
@@ -238,30 +283,88 @@ fn every_relation_on_up_to_four_jobs() {
 
 /// Whether the whole text has the line form.
 fn has_form(text: &[u8]) -> bool {
-    let number = |field: &[u8]| {
-        matches!(field.len(), 1..=3)
+    let number = |field: &[u8], digits: usize| {
+        (1..=digits).contains(&field.len())
             && field.iter().all(|byte| (b'0'..=b'9').contains(byte))
             && (field.len() == 1 || field[0] != b'0')
     };
     let Some((b'\n', body)) = text.split_last() else {
         return false;
     };
-    body.split(|&byte| byte == b'\n')
-        .enumerate()
-        .all(|(line, text)| {
-            let text = text.strip_suffix(b"\r").unwrap_or(text);
-            let fields: Vec<&[u8]> = text.split(|&byte| byte == b' ').collect();
-            fields.len() == if line == 0 { 1 } else { 2 }
-                && fields.iter().all(|field| number(field))
-        })
+    let mut lines = body.split(|&byte| byte == b'\n').map(|text| {
+        let text = text.strip_suffix(b"\r").unwrap_or(text);
+        text.split(|&byte| byte == b' ').collect::<Vec<&[u8]>>()
+    });
+    let first = lines.next().unwrap();
+    if first.len() != 1 || !number(first[0], 3) {
+        return false;
+    }
+    let hours: Vec<_> = lines.by_ref().take(value(first[0])).collect();
+    hours.len() == value(first[0])
+        && hours
+            .iter()
+            .all(|fields| fields.len() == 1 && number(fields[0], 4))
+        && lines.all(|fields| fields.len() == 2 && fields.iter().all(|field| number(field, 3)))
 }
 
-/// Whether some text of the form begins so: one of the shortest endings does.
+fn value(digits: &[u8]) -> usize {
+    std::str::from_utf8(digits).unwrap().parse().unwrap()
+}
+
+/// Whether some text of the form begins so: with its last line ended in one of
+/// the shortest ways, and as many hours lines after it as are still due.
 fn begins_form(text: &[u8]) -> bool {
     let endings: [&[u8]; 5] = [b"", b"\n", b"0\n", b" 0\n", b"0 0\n"];
-    endings
-        .iter()
-        .any(|ending| has_form(&[text, ending].concat()))
+    endings.iter().any(|ending| {
+        let ended = [text, ending].concat();
+        let lines = ended.iter().filter(|&&byte| byte == b'\n').count();
+        let digits: Vec<u8> = ended
+            .iter()
+            .copied()
+            .take_while(u8::is_ascii_digit)
+            .collect();
+        if digits.is_empty() || digits.len() > 3 {
+            return false;
+        }
+        let due = (value(&digits) + 1).saturating_sub(lines);
+        has_form(&[&ended[..], &b"0\n".repeat(due)].concat())
+    })
+}
+
+/// Holds every text of these letters that begins so against the form; broken is
+/// the place where it is already, if it is.
+fn every_text(letters: &[u8], text: &mut Vec<u8>, broken: Option<usize>, longest: usize) {
+    let expected = match broken {
+        None if has_form(text) => None,
+        None => Some(text.len()),
+        broken => broken,
+    };
+    assert_eq!(
+        sheet::read(text).err(),
+        expected,
+        "{:?}",
+        text.escape_ascii().to_string()
+    );
+    if text.len() == longest {
+        return;
+    }
+    for &letter in letters {
+        text.push(letter);
+        let here = || (!begins_form(text)).then(|| text.len() - 1);
+        let broken = broken.or_else(here);
+        every_text(letters, text, broken, longest);
+        text.pop();
+    }
+}
+
+#[test]
+fn place_of_a_broken_line_on_every_short_text() {
+    every_text(b"019 \r\n-", &mut Vec::new(), None, 7);
+    every_text(b"02 \r\n", &mut Vec::new(), None, 9);
+    for ahead in ["1\n", "2\r\n", "2\n4095\n", "1\n100", "0\r\n", "0\n1 10"] {
+        assert!(begins_form(ahead.as_bytes()));
+        every_text(b"019 \r\n", &mut ahead.into(), None, ahead.len() + 6);
+    }
 }
 
 /// Every text of so many letters.
@@ -276,62 +379,45 @@ fn texts(letters: &'static [u8], length: u32) -> impl Iterator<Item = Vec<u8>> {
     })
 }
 
-#[test]
-fn place_of_a_broken_line_on_every_short_text() {
-    for length in 0..=8 {
-        for text in texts(b"019 \r\n-", length) {
-            let expected = if has_form(&text) {
-                None
-            } else {
-                Some(
-                    (0..text.len())
-                        .find(|&at| !begins_form(&text[..=at]))
-                        .unwrap_or(text.len()),
-                )
-            };
-            assert_eq!(
-                sheet::read(&text).err(),
-                expected,
-                "{:?}",
-                text.escape_ascii().to_string()
-            );
-        }
-    }
-}
-
-/// Every text of the form of up to so many bytes that has no digits but 0, 1 and
-/// 5, put together from its lines, with the numbers on them.
+/// Every text of the form of up to so many bytes that has no digits but 0 and 1
+/// after its count, which is below 4, put together from its lines, with the
+/// numbers on them.
 fn all_of_form(longest: usize) -> Vec<(Vec<u8>, Vec<usize>)> {
-    let two_digits = [1, 5].map(|first| [0, 1, 5].map(|second| 10 * first + second));
-    let three_digits = two_digits
-        .concat()
-        .into_iter()
-        .flat_map(|first| [0, 1, 5].map(|second| 10 * first + second));
-    let mut numbers = vec![0, 1, 5];
-    numbers.extend(two_digits.concat());
-    numbers.extend(three_digits);
+    let numbers = |least: usize| [0, 1].map(|digit| 10 * least + digit);
+    let mut jobs = vec![0, 1];
+    jobs.extend(numbers(1));
+    jobs.extend(numbers(1).map(numbers).concat());
+    let mut hours = jobs.clone();
+    hours.extend(jobs[4..].iter().flat_map(|&least| numbers(least)));
 
-    let mut whole = Vec::new();
+    let mut counts = Vec::new();
+    let mut hours_lines = Vec::new();
     let mut orders = Vec::new();
     for end in ["\n", "\r\n"] {
-        for &u in &numbers {
-            whole.push((format!("{u}{end}"), vec![u]));
-            for &v in &numbers {
-                orders.push((format!("{u} {v}{end}"), vec![u, v]));
-            }
+        counts.extend((0..4).map(|count| (format!("{count}{end}"), vec![count])));
+        hours_lines.extend(hours.iter().map(|h| (format!("{h}{end}"), vec![*h])));
+        for &u in &jobs {
+            orders.extend(jobs.iter().map(|v| (format!("{u} {v}{end}"), vec![u, *v])));
         }
     }
+    let mut texts = counts;
     let mut done = 0;
-    while done < whole.len() {
-        let (text, listed) = whole[done].clone();
-        for (line, order) in &orders {
+    while done < texts.len() {
+        let (text, listed) = texts[done].clone();
+        let next = if listed.len() <= listed[0] {
+            &hours_lines
+        } else {
+            &orders
+        };
+        for (line, numbers) in next {
             if text.len() + line.len() <= longest {
-                whole.push((text.clone() + line, [&listed[..], order].concat()));
+                texts.push((text.clone() + line, [&listed[..], numbers].concat()));
             }
         }
         done += 1;
     }
-    whole
+    texts.retain(|(_, listed)| listed.len() > listed[0]);
+    texts
         .into_iter()
         .map(|(text, listed)| (text.into_bytes(), listed))
         .collect()
@@ -340,36 +426,43 @@ fn all_of_form(longest: usize) -> Vec<(Vec<u8>, Vec<usize>)> {
 #[test]
 fn place_of_a_broken_line_by_the_texts_that_begin_so() {
     let longest = 8;
-    // No beginning is more than three bytes short of a whole text.
-    let of_form = all_of_form(longest + 3);
+    // A text cut within these bytes can be ended with few more: a line's end or
+    // an order's, and an hours line of two bytes for each that is still due.
+    let of_form = all_of_form(longest + 5);
     let mut beginnings = HashSet::new();
     for (text, listed) in &of_form {
-        let (count, orders) = sheet::read(text).unwrap();
-        let mut read = vec![count];
-        read.extend(orders.iter().flat_map(|&(u, v)| [u, v]));
+        let sheet = sheet::read(text).unwrap();
+        let mut read = vec![sheet.count];
+        read.extend(&sheet.hours);
+        read.extend(sheet.orders.iter().flat_map(|&(u, v)| [u, v]));
         assert_eq!(read, *listed);
         for length in 0..=text.len().min(longest) {
             beginnings.insert(text[..length].to_vec());
         }
     }
     let of_form: HashSet<Vec<u8>> = of_form.into_iter().map(|(text, _)| text).collect();
-    for length in 0..=longest {
-        for text in texts(b"015 \r\n-", length as u32) {
-            let expected = if of_form.contains(&text) {
-                None
-            } else {
-                Some(
-                    (0..text.len())
-                        .find(|&at| !beginnings.contains(&text[..=at]))
-                        .unwrap_or(text.len()),
-                )
-            };
-            assert_eq!(
-                sheet::read(&text).err(),
-                expected,
-                "{:?}",
-                text.escape_ascii().to_string()
-            );
+    for ahead in [
+        "0\n", "0\r\n", "1\n", "1\r\n", "2\n", "2\r\n", "3\n", "3\r\n",
+    ] {
+        for length in 0..=longest - ahead.len() {
+            for text in texts(b"01 \r\n-", length as u32) {
+                let text = [ahead.as_bytes(), &text].concat();
+                let expected = if of_form.contains(&text) {
+                    None
+                } else {
+                    Some(
+                        (0..text.len())
+                            .find(|&at| !beginnings.contains(&text[..=at]))
+                            .unwrap_or(text.len()),
+                    )
+                };
+                assert_eq!(
+                    sheet::read(&text).err(),
+                    expected,
+                    "{:?}",
+                    text.escape_ascii().to_string()
+                );
+            }
         }
     }
 }

@@ -27,7 +27,7 @@ fn sheets() -> Vec<Vec<u8>> {
         if round % 5 == 1 {
             orders.push((rng.below(count), rng.below(count + 1)));
         }
-        let mut text = sheet(count, &orders);
+        let mut text = sheet(count, &hours(&mut rng, count), &orders);
         if round % 2 == 1 {
             text = any_end(&mut rng, &text);
         }
@@ -37,7 +37,7 @@ fn sheets() -> Vec<Vec<u8>> {
         sheets.push(text);
     }
     sheets.push(
-        b"3\n"
+        b"3\n0\n0\n0\n"
             .iter()
             .chain(&b"0 1\n".repeat(4097))
             .copied()
