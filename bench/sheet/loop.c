@@ -7,16 +7,23 @@
 enum { LINE = 9 }; // bytes of the longest line
 
 // How many arcs there are plus 2^20 times one more than the count, or the place of the fault.
-uint64_t c_read(const uint8_t *d, size_t len, uint16_t *list, size_t room) {
+uint64_t c_read(const uint8_t *d, size_t len, uint16_t *hours, size_t jobs, uint16_t *list, size_t room) {
 #define SURE 1
 #define CAREFUL (at < len)
 #define DIGIT(e, THERE) (THERE && (e = d[at] - '0') < 10)
 #define NUMBER(x, THERE) do { unsigned e; if (!DIGIT(e, THERE)) goto bad; at++; x = e; \
     if (x) { if (DIGIT(e, THERE)) { x = 10 * x + e; at++; if (DIGIT(e, THERE)) { x = 10 * x + e; at++; } } } } while (0)
+#define LONG(x, THERE) do { unsigned e; NUMBER(x, THERE); if (99 < x && DIGIT(e, THERE)) { x = 10 * x + e; at++; } } while (0)
 #define IS(b, THERE) (THERE && d[at] == (b))
 #define BYTE(b, THERE) do { if (!IS(b, THERE)) goto bad; at++; } while (0)
 #define LF(THERE) do { if (__builtin_expect(IS('\n', THERE), 1)) at++; else { BYTE('\r', THERE); BYTE('\n', THERE); } } while (0)
 #define CR_LF(THERE) do { if (__builtin_expect(IS('\r', THERE), 1)) { at++; BYTE('\n', THERE); } else BYTE('\n', THERE); } while (0)
+#define HOURS(STOP, END, THERE) while (i < n && at < (STOP)) { \
+        LONG(x, THERE); \
+        END(THERE); \
+        if (i < jobs) hours[i] = x; \
+        i++; \
+    }
 #define LINES(STOP, END, THERE) while (at < (STOP)) { \
         NUMBER(x, THERE); \
         BYTE(' ', THERE); \
@@ -25,11 +32,15 @@ uint64_t c_read(const uint8_t *d, size_t len, uint16_t *list, size_t room) {
         if (m < room / 2) { list[2 * m] = x; list[2 * m + 1] = y; } \
         m++; \
     }
-    size_t at = 0, m = 0, stop = len < LINE ? 0 : len - LINE;
+    size_t at = 0, i = 0, m = 0, stop = len < LINE ? 0 : len - LINE;
     unsigned n, x, y;
     NUMBER(n, CAREFUL);
     LF(CAREFUL);
-    if (d[at - 2] == '\r') LINES(stop, CR_LF, SURE) else LINES(stop, LF, SURE)
+    int cr_lf = d[at - 2] == '\r';
+    if (cr_lf) HOURS(stop, CR_LF, SURE) else HOURS(stop, LF, SURE)
+    HOURS(len, LF, CAREFUL)
+    if (i < n) goto bad;
+    if (cr_lf) LINES(stop, CR_LF, SURE) else LINES(stop, LF, SURE)
     LINES(len, LF, CAREFUL)
     return m + ((uint64_t)(1 + n) << 20);
 bad:
