@@ -1,13 +1,11 @@
 // The C loop to compare with: reads a sheet by the line form in one pass, with no byte read past its end. As long as there are as many bytes left as a
-// line may have, none is tested for being there. There are two loops: one expects lines that end in a line feed, the other in a carriage return and a
-// line feed, as the count line does. Both take either.
+// line may have, none is tested for being there. The lines of hours and the order lines have two loops each: one expects lines that end in a line feed, the
+// other in a carriage return and a line feed, as the count line does. Both take either.
 #include <stddef.h>
 #include <stdint.h>
 
 enum { LINE = 9 }; // bytes of the longest line
 
-// How many arcs there are plus 2^20 times one more than the count, or the place of the fault.
-uint64_t c_read(const uint8_t *d, size_t len, uint16_t *hours, size_t jobs, uint16_t *list, size_t room) {
 #define SURE 1
 #define CAREFUL (at < len)
 #define DIGIT(e, THERE) (THERE && (e = d[at] - '0') < 10)
@@ -32,14 +30,30 @@ uint64_t c_read(const uint8_t *d, size_t len, uint16_t *hours, size_t jobs, uint
         if (m < room / 2) { list[2 * m] = x; list[2 * m + 1] = y; } \
         m++; \
     }
-    size_t at = 0, i = 0, m = 0, stop = len < LINE ? 0 : len - LINE;
+
+// Reads the lines of n jobs' hours that begin at `at`: the place after them, or of the fault, and whether all are there. Not inlined: the order lines
+// then have the registers for themselves.
+__attribute__((noinline))
+static size_t hours_lines(const uint8_t *d, size_t len, size_t at, size_t n, int cr_lf, uint16_t *hours, size_t jobs, int *all) {
+    size_t i = 0, stop = len < LINE ? 0 : len - LINE;
+    unsigned x;
+    if (cr_lf) HOURS(stop, CR_LF, SURE) else HOURS(stop, LF, SURE)
+    HOURS(len, LF, CAREFUL)
+bad:
+    *all = i == n;
+    return at;
+}
+
+// How many arcs there are plus 2^20 times one more than the count, or the place of the fault.
+uint64_t c_read(const uint8_t *d, size_t len, uint16_t *hours, size_t jobs, uint16_t *list, size_t room) {
+    size_t at = 0, m = 0, stop = len < LINE ? 0 : len - LINE;
     unsigned n, x, y;
+    int all;
     NUMBER(n, CAREFUL);
     LF(CAREFUL);
     int cr_lf = d[at - 2] == '\r';
-    if (cr_lf) HOURS(stop, CR_LF, SURE) else HOURS(stop, LF, SURE)
-    HOURS(len, LF, CAREFUL)
-    if (i < n) goto bad;
+    at = hours_lines(d, len, at, n, cr_lf, hours, jobs, &all);
+    if (!all) goto bad;
     if (cr_lf) LINES(stop, CR_LF, SURE) else LINES(stop, LF, SURE)
     LINES(len, LF, CAREFUL)
     return m + ((uint64_t)(1 + n) << 20);
