@@ -8,10 +8,10 @@ use sheet::SheetRead;
 
 // Reads a sheet: how many arcs there are plus 2^20 times one more than the count, or the place of the fault.
 #[no_mangle]
-pub extern "C" fn sheet_bench_read(s: &[u8], list: &mut [u16]) -> u64
+pub extern "C" fn sheet_bench_read(s: &[u8], hours: &mut [u16], list: &mut [u16]) -> u64
     ensures { λ r. ⌜ r ≡ packed (resultOf (scan (now (s .entry)))) ⌝ }
 {
-    let read = sheet::read_sheet(s, list);
+    let read = sheet::read_sheet(s, hours, list);
     match read {
         SheetRead::Sheet(count, arcs) => (arcs % 1048576) as u64 + 1048576 * (1 + count as u64),
         SheetRead::Broken(place) => (place % 1048576) as u64,

@@ -35,12 +35,39 @@ fn numbers(list: &[u16]) {
     }
 }
 
-// Reads a sheet into a list with room for two arcs and one number more, and prints the result and the list.
+// No hours: they have at most four digits.
+const BARE: u16 = 10000;
+
+// How many of the list's numbers there are up to the last that is not BARE.
+fn filled(list: &[u16]) -> usize
+    ensures { λ r. ⌜ r ≤ length (now (list .entry)) ⌝ }
+{
+    let mut n = list.len();
+    while 0 < n {
+        if list[n - 1] != BARE {
+            return n;
+        }
+        n -= 1;
+    }
+    n
+}
+
+// Prints the hours up to the last that was written.
+fn hours_read(hours: &[u16]) {
+    let n = filled(hours);
+    numbers(&hours[0..n]);
+}
+
+// Reads a sheet into lists with room for the hours of 128 jobs, and for two arcs and one number more. Prints the result,
+// the hours that were read, and the whole list of arcs.
 fn case(name: &[u8], s: &[u8]) {
+    let mut hours = [BARE; 128];
     let mut list = [9u16; 5];
-    let read = sheet::read_sheet(s, &mut list);
+    let read = sheet::read_sheet(s, &mut hours, &mut list);
     io::write_all(STDOUT_FILENO, name);
     result(read);
+    io::write_all(STDOUT_FILENO, b" |");
+    hours_read(&hours);
     io::write_all(STDOUT_FILENO, b" |");
     numbers(&list);
     io::write_all(STDOUT_FILENO, b"\n");

@@ -29,16 +29,22 @@ enum-known-read-2 c = search needs
 same-length : tie.Need-same-length
 same-length c = search needs
 
-returns : tie.Need-returns
-unfolding packed
-returns c = ap packed (sym (c .before .read .given .1) ∙ c .before .before .before .before .before .read-sheet .ensures .result)
-
 same-length-2 : tie.Need-same-length-2
 same-length-2 c = search needs
 
+returns : tie.Need-returns
+unfolding packed
+returns c = ap packed (sym (c .before .read .given .1) ∙ c .before .before .before .before .before .before .before .read-sheet .ensures .result)
+
+same-length-3 : tie.Need-same-length-3
+same-length-3 c = search needs
+
+same-length-4 : tie.Need-same-length-4
+same-length-4 c = search needs
+
 returns-2 : tie.Need-returns-2
 unfolding packed
-returns-2 c = ap packed (sym (c .before .read2 .given .1) ∙ c .before .before .before .before .before .read-sheet .ensures .result)
+returns-2 c = ap packed (sym (c .before .read2 .given .1) ∙ c .before .before .before .before .before .before .before .read-sheet .ensures .result)
 
 pub sheet-bench-read-spec : {M : Type 1} → statement M
 sheet-bench-read-spec =
@@ -52,6 +58,8 @@ sheet-bench-read-spec =
     add-result-2
     enum-known-read-2
     same-length
-    returns
     same-length-2
+    returns
+    same-length-3
+    same-length-4
     returns-2)
