@@ -24,16 +24,17 @@ packed-bits (suc j) k x rest =
     ∙ ap (λ (v : ℕ). packed (j + k) v (bits j x ++ rest)) (halves j x)
     ∙ packed-bits j k x rest
 
-layout-packed : (n : ℕ) (t : Tree) → n ≤ 128 → layout n t ≡ packed 1 (n - 1) (treeBits t)
+layout-packed : (n : ℕ) (hours : List ℕ) (t : Tree) → n ≤ 128 → layout n hours t ≡ packed 1 (n - 1) (treeBits hours t)
 unfolding layout bytesOf bits
-layout-packed n t m =
+layout-packed n hours t m =
     let e : (n - 1) / 2 ^ 6 % 2 ≡ (n - 1) / 2 ^ 6 = omega arith in
-    ap (λ (v : ℕ). packed 7 v (bits 6 (n - 1) ++ treeBits t)) e ∙ packed-bits 6 1 (n - 1) (treeBits t)
+    ap (λ (v : ℕ). packed 7 v (bits 6 (n - 1) ++ treeBits hours t)) e ∙ packed-bits 6 1 (n - 1) (treeBits hours t)
 
-packed-first : (x : ℕ) (t : Tree) → getD (packed 1 x (treeBits t)) 0 0 / 2 ≡ x
+packed-first : (x : ℕ) (hours : List ℕ) (t : Tree) → getD (packed 1 x (treeBits hours t)) 0 0 / 2 ≡ x
 unfolding packed treeBits bits
-packed-first x (leaf j) = omega arith
-packed-first x (node k t f) = omega arith
+packed-first x hours (leaf j) = omega arith
+packed-first x hours (node k t f) = omega arith
 
-pub first-byte : (n : ℕ) (t : Tree) → 0 < n → n ≤ 128 → getD (layout n t) 0 0 / 2 + 1 ≡ n
-first-byte n t l m = let e = ap (λ (bytes : List ℕ). getD bytes 0 0) (layout-packed n t m) in omega (arith, packed-first (n - 1) t)
+pub first-byte : (n : ℕ) (hours : List ℕ) (t : Tree) → 0 < n → n ≤ 128 → getD (layout n hours t) 0 0 / 2 + 1 ≡ n
+first-byte n hours t l m =
+    let e = ap (λ (bytes : List ℕ). getD bytes 0 0) (layout-packed n hours t m) in omega (arith, packed-first (n - 1) hours t)

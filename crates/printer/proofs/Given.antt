@@ -12,6 +12,7 @@ use Rattle.poset.specs.Tree.{leaves, groups}
 use Rattle.poset.proofs.Areas.{bytes-length}
 use Rattle.poset.proofs.Theorems.{tree-is-strict, reduction-fits}
 use Rattle.relation.specs.Arcs.{pairs}
+use Rattle.record.specs.Layout.{leafBits, recordRoom}
 use Rattle.record.proofs.Sizes.{length-leaves}
 use Rattle.record.proofs.Theorems.{layout-length}
 use Rattle.writer.proofs.Worklist.{reversed-length}
@@ -25,7 +26,7 @@ use Rattle.analysis.proofs.Steps.{pairs-bytes}
 use Rattle.analysis.proofs.Inputs.{sheet-fate}
 use Rattle.analysis.proofs.Answers.{sheet-yield}
 use Rattle.analysis.proofs.Crossing.{gives-same}
-use Rattle.printer.specs.Text.{accepted, refusedText, printed}
+use Rattle.printer.specs.Text.{accepted, acceptedText, refusedText, printed}
 use Rattle.printer.specs.Buffer.{Limits}
 use Rattle.printer.proofs.FirstByte.{first-byte}
 
@@ -44,11 +45,12 @@ front-fits {k} {l} f = omega (arith, front-size f, length-take k l)
 front : {k : ℕ} {l : List ℕ} (xs ys : List ℕ) → l ≡ xs ++ ys → k ≡ length xs → Front k l xs
 front {k} xs ys e n = record { these = ap (take k) e ∙ take-at xs ys k (sym n); many = n }
 
--- an outcome is its parts
-outcome-is : {o : Outcome} {v : Answer} {bytes forward reverse : List ℕ} {arcs : List Arc} → v ≡ o .verdict → bytes ≡ o .bytes → arcs ≡ o .arcs
-    → forward ≡ o .forward → reverse ≡ o .reverse
-    → record { verdict = v; bytes = bytes; arcs = arcs; forward = forward; reverse = reverse } ≡ o
-outcome-is p b a f r = rw (p, b, a, f, r)
+-- outcomes that differ in their hours alone are printed alike
+printed-same
+    : (o p : Outcome) → o .verdict ≡ p .verdict → o .bytes ≡ p .bytes → o .arcs ≡ p .arcs → o .forward ≡ p .forward → o .reverse ≡ p .reverse
+    → printed o ≡ printed p
+unfolding printed acceptedText
+printed-same o p v b a f r = rw (v, b, a, f, r)
 
 -- an acceptance, taken out of the numbers told, the areas and the sequences
 
@@ -57,20 +59,20 @@ pub record Parts (o : Outcome) (told bytes area forward reverse : List ℕ) : Ty
   pub arcs-are : Front (2 * getD told 2 0) area (arcBytes (o .arcs))
   pub forward-are : Front (getD bytes 0 0 / 2 + 1) forward (o .forward)
   pub reverse-are : Front (getD bytes 0 0 / 2 + 1) reverse (o .reverse)
-  pub few-bytes : getD told 1 0 ≤ 272
+  pub few-bytes : getD told 1 0 ≤ recordRoom
   pub few-arcs : getD told 2 0 ≤ 4096
   pub few-jobs : getD bytes 0 0 / 2 + 1 ≤ 128
   pub verdict-is : answer 0 (getD told 1 0) (getD told 2 0) (getD told 3 0) 0 ≡ o .verdict
 
-module _ {n : ℕ} {arcs : List Arc} {o : Outcome} (y : Yield n arcs o) {bytes area : List ℕ} {r : Analysis} {bytes′ area′ : List ℕ}
+module _ {n : ℕ} {hours : List ℕ} {arcs : List Arc} {o : Outcome} (y : Yield n hours arcs o) {bytes area : List ℕ} {r : Analysis} {bytes′ area′ : List ℕ}
     (g : Gives o bytes area r bytes′ area′) {told : List ℕ} (t : told ≡ numbersOf (answerOf (r .verdict))) where
   numbers : told ≡ numbersOf (answer 0 (length (o .bytes)) (length (o .arcs)) (groups (y .tree)) 0)
   numbers = t ∙ ap numbersOf (g .answers ∙ y .verdict-is)
 
-  long : (length (o .bytes) ≡ (7 + 8 * n + 9 * groups (y .tree) + 7) / 8) × (length (o .bytes) ≤ 272)
+  long : (length (o .bytes) ≡ (7 + leafBits * n + 9 * groups (y .tree) + 7) / 8) × (length (o .bytes) ≤ recordRoom)
   long =
       let e = ap length (y .bytes-are) in
-      let l = layout-length n (y .tree) (y .spells .most) (y .means .spans) in
+      let l = layout-length n hours (y .tree) (y .spells .most) (y .means .spans) in
       (e ∙ l .0, omega arith)
 
   jobs : getD bytes′ 0 0 / 2 + 1 ≡ n
@@ -80,7 +82,7 @@ module _ {n : ℕ} {arcs : List Arc} {o : Outcome} (y : Yield n arcs o) {bytes a
       ap (λ (l : List ℕ). getD l 0 0 / 2 + 1) (g .record-is)
       ∙ ap (λ (b : ℕ). b / 2 + 1) (List·getD-append (o .bytes) (drop (length (o .bytes)) bytes) 0 0 some-byte)
       ∙ ap (λ (l : List ℕ). getD l 0 0 / 2 + 1) (y .bytes-are)
-      ∙ first-byte n (y .tree) (y .spells .least) (y .spells .most)
+      ∙ first-byte n hours (y .tree) (y .spells .least) (y .spells .most)
 
   jobs-long : length (leaves (y .tree)) ≡ n
   jobs-long = length-leaves n (y .tree) (y .means .spans)
@@ -104,7 +106,7 @@ module _ {n : ℕ} {arcs : List Arc} {o : Outcome} (y : Yield n arcs o) {bytes a
 
 -- of the analysis of a sheet, where the areas are those that the program lends
 pub sheet-gives : (s : List ℕ) {bytes area bytes′ area′ : List ℕ} {r : Analysis} → Gives (sheetOutcome (rooms bytes area) s) bytes area r bytes′ area′
-    → length bytes ≡ 272 → length area ≡ 8192 → Gives (sheetOutcome roomy s) bytes area r bytes′ area′
+    → length bytes ≡ recordRoom → length area ≡ 8192 → Gives (sheetOutcome roomy s) bytes area r bytes′ area′
 sheet-gives s g p q = gives-same (ap₂ (λ (a b : ℕ). sheetOutcome (record { record-room = a; arc-room = b }) s) p q) g
 
 pub sheet-parts : (s : List ℕ) {bytes area bytes′ area′ told : List ℕ} {r : Analysis} → Gives (sheetOutcome roomy s) bytes area r bytes′ area′
@@ -112,7 +114,7 @@ pub sheet-parts : (s : List ℕ) {bytes area bytes′ area′ told : List ℕ} {
 sheet-parts s g t z =
     let zero : sheetOutcome roomy s .verdict .number ≡ 0 =
     sym (ap (λ (l : List ℕ). getD l 0 0) (t ∙ ap numbersOf (g .answers))) ∙ z in
-    parts (sheet-yield roomy s (sheet-fate roomy s) zero .3) g t
+    parts (sheet-yield roomy s (sheet-fate roomy s) zero .4) g t
 
 -- what is printed
 
@@ -140,11 +142,11 @@ module _ {o : Outcome} {told bytes area forward reverse : List ℕ} (p : Parts o
     room = room;
   }
 
-  pub parts-whole : accepted (getD told 2 0) (getD told 3 0) (take (getD told 1 0) bytes) (take (2 * getD told 2 0) area)
-      (take (getD bytes 0 0 / 2 + 1) forward) (take (getD bytes 0 0 / 2 + 1) reverse) ≡ o
+  pub parts-whole : printed (accepted (getD told 2 0) (getD told 3 0) (take (getD told 1 0) bytes) (take (2 * getD told 2 0) area)
+      (take (getD bytes 0 0 / 2 + 1) forward) (take (getD bytes 0 0 / 2 + 1) reverse)) ≡ printed o
   unfolding accepted
   parts-whole =
       let v : answer 0 (length (take (getD told 1 0) bytes)) (getD told 2 0) (getD told 3 0) 0 ≡ o .verdict =
       ap (λ (k : ℕ). answer 0 k (getD told 2 0) (getD told 3 0) 0) (sym (front-size (p .bytes-are))) ∙ p .verdict-is in
       let a : pairs (take (2 * getD told 2 0) area) ≡ o .arcs = ap pairs (p .arcs-are .these) ∙ pairs-bytes (o .arcs) in
-      outcome-is v (p .bytes-are .these) a (p .forward-are .these) (p .reverse-are .these)
+      printed-same _ o v (p .bytes-are .these) a (p .forward-are .these) (p .reverse-are .these)

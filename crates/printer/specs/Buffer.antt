@@ -3,6 +3,7 @@ use Prim.Native.Nat.{ℕ, _+_, _≤_}
 use mathlib.Core.Path.{_≡_}
 use mathlib.Core.List.{List, _++_}
 use lib.ListN.{length, take, drop}
+use Rattle.record.specs.Layout.{recordRoom}
 
 -- s over what was held, from a place on
 unfoldable pub over : List ℕ → ℕ → List ℕ → List ℕ
@@ -19,9 +20,9 @@ pub record Prints (held s held′ : List ℕ) (end : ℕ) : Type 0 where
   pub fits : end ≤ length held
   pub holds : held′ ≡ s ++ drop (length s) held
 
--- an acceptance's record, its arcs at two bytes for each and its sequences are no longer than document 01 allows, and the buffer has room for any such text
+-- an acceptance's record, its arcs at two bytes for each and its sequences are no longer than the papers allow, and the buffer has room for any such text
 pub record Limits (bytes reduced forward reverse held : List ℕ) : Type 0 where
-  pub record-long : length bytes ≤ 272
+  pub record-long : length bytes ≤ recordRoom
   pub arcs-long : length reduced ≤ 8192
   pub forward-long : length forward ≤ 128
   pub reverse-long : length reverse ≤ 128

@@ -9,7 +9,7 @@ ghost use Rattle.printer.specs.Buffer.{Prints};
 pub fn sheet_text(sheet: &[u8], out: &mut [u8; 40000]) -> usize
     ensures { λ r. ⌜ Prints (now (out .entry)) (printed (sheetOutcome roomy (now (sheet .entry)))) (now (out .exit)) r ⌝ }
 {
-    let mut bytes = [0u8; 272];
+    let mut bytes = [0u8; record::RECORD_ROOM];
     let mut area = [0u8; 8192];
     let made = analysis::analyse_sheet(sheet, &mut bytes, &mut area);
     let forward = made.forward;

@@ -26,7 +26,7 @@ same-length-4 c = search needs
 returns : tie.Need-returns
 returns c =
     let s = c .before .before .before .before in
-    gives-shown (s .before .before .before .before .before .before .before .analyse-pairs .ensures) (pair-narrow _ _ _) (s .shown .ensures)
+    gives-shown (s .before .before .before .before .before .before .before .analyse-pairs .ensures) (pair-narrow _ _ _ _) (s .shown .ensures)
 
 pub ordersheet-test-pairs-spec : {M : Type 1} → statement M
 ordersheet-test-pairs-spec =

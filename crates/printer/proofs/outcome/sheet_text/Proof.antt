@@ -5,6 +5,7 @@ use mathlib.Core.Path.{ap, _∙_}
 use mathlib.Core.List.{List}
 use native.Mathlib.Omega.{arith}
 use lib.ListN.{replicate, length-replicate}
+use Rattle.record.specs.Layout.{recordRoom}
 use Rattle.analysis.specs.Answer.{numbersOf}
 use Rattle.analysis.specs.Outcome.{roomy, sheetOutcome}
 use Rattle.analysis.specs.Result.{Gives}
@@ -44,9 +45,9 @@ abbrev text : Numbered → List ℕ
 text n = made n .before .before .before .before .args .sheet .now
 
 given : (n : Numbered)
-    → Gives (sheetOutcome roomy (text n)) (replicate 272 0) (replicate 8192 0) (made n .analyse-sheet .result)
+    → Gives (sheetOutcome roomy (text n)) (replicate recordRoom 0) (replicate 8192 0) (made n .analyse-sheet .result)
     (made n .analyse-sheet .last .1 .0) (made n .analyse-sheet .last .1 .1 .0)
-given n = sheet-gives (text n) (made n .analyse-sheet .ensures) (length-replicate {A = ℕ} 272 0) (length-replicate {A = ℕ} 8192 0)
+given n = sheet-gives (text n) (made n .analyse-sheet .ensures) (length-replicate {A = ℕ} recordRoom 0) (length-replicate {A = ℕ} 8192 0)
 
 -- and where the number is 0
 
@@ -147,7 +148,7 @@ accepted-text-requires : tie.Need-accepted-text-requires
 accepted-text-requires c κs = parts-limits (parts (c .before .before .before .before .before)) _ (search needs)
 
 returns-2 : tie.Need-returns-2
-returns-2 c = prints-of (ap printed (parts-whole (parts (c .before .before .before .before .before .before)))) (c .accepted-text .ensures)
+returns-2 c = prints-of (parts-whole (parts (c .before .before .before .before .before .before))) (c .accepted-text .ensures)
 
 pub sheet-text-spec : {M : Type 1} → statement M
 sheet-text-spec =
