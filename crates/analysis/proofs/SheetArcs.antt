@@ -10,7 +10,7 @@ use Rattle.poset.specs.Order.{Arc}
 use Rattle.poset.proofs.Laws.{clash}
 use Rattle.sheet.specs.Text.{LineForm}
 use Rattle.sheet.specs.Scan.{Read, sheet, broken, scan}
-use Rattle.sheet.specs.Listing.{hoursListing, listing, resultOf, hoursIn, arcsOf, Answers}
+use Rattle.sheet.specs.Listing.{hoursListing, listing, resultOf, hoursIn, arcsIn, Answers}
 use Rattle.sheet.specs.declared.SheetRead.{SheetRead}
 use Rattle.sheet.specs.declared.SheetRead.the-variants.{Sheet, Broken}
 use Rattle.sheet.proofs.Listing.{hours-length, hours-front, listing-length, listing-front}
@@ -40,7 +40,7 @@ pub record SheetLists (s : List ℕ) (n count : ℕ) (times list : List ℕ) : T
 -- what a read of a sheet leaves in a list for 128 jobs and in one for 4,096 arcs
 module _ (s held-hours held : List ℕ) (r : SheetRead) (times list : List ℕ) (a : Answers (scan s) held-hours held r times list) where
   pub sheet-lists : (n count : ℕ) → r ≡ Sheet n count → length held-hours ≡ 128 → length held ≡ 8192 → SheetLists s n count times list
-  unfolding resultOf hoursIn arcsOf
+  unfolding resultOf hoursIn arcsIn
   sheet-lists n count e room size = go (scan s) refl a
     where
       go : (x : Read) → scan s ≡ x → Answers x held-hours held r times list → SheetLists s n count times list
@@ -60,11 +60,11 @@ module _ (s held-hours held : List ℕ) (r : SheetRead) (times list : List ℕ) 
             front = λ few. ap (λ k. take (2 * k) list) long ∙ ap (take (2 * length arcs)) (b .listed) ∙ listing-front arcs held (omega (arith, long, size));
           }
 
-  pub broken-read : (p : ℕ) → r ≡ Broken p → scan s ≡ broken p (hoursIn (scan s)) (arcsOf (scan s))
-  unfolding resultOf hoursIn arcsOf
+  pub broken-read : (p : ℕ) → r ≡ Broken p → scan s ≡ broken p (hoursIn (scan s)) (arcsIn (scan s))
+  unfolding resultOf hoursIn arcsIn
   broken-read p e = go (scan s) a
     where
-      go : (x : Read) → Answers x held-hours held r times list → x ≡ broken p (hoursIn x) (arcsOf x)
+      go : (x : Read) → Answers x held-hours held r times list → x ≡ broken p (hoursIn x) (arcsIn x)
       go (sheet m hours arcs) b = absurd (clash (ap isSheet (b .result)) (ap isSheet e))
       go (broken q hours arcs) b = ap (λ k. broken k hours arcs) (ap jobs (sym (b .result) ∙ e))
 
@@ -72,4 +72,4 @@ module _ (s held-hours held : List ℕ) (r : SheetRead) (times list : List ℕ) 
   hours-long = ap length (a .hours-listed) ∙ hours-length (hoursIn (scan s)) held-hours
 
   pub list-long : length list ≡ length held
-  list-long = ap length (a .listed) ∙ listing-length (arcsOf (scan s)) held
+  list-long = ap length (a .listed) ∙ listing-length (arcsIn (scan s)) held

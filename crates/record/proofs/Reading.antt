@@ -56,8 +56,8 @@ unfolding readTree grouped bind
 read-group d m k t f hs bs rest h e = rw (read-kind k (bits 7 m ++ bs), read-back 7 m bs h, e, kind-back k)
 
 -- the hours of a tree's leaves, from left to right
-abbrev pub hoursIn : List ℕ → List ℕ → List ℕ
-hoursIn hours js = map (hoursOf hours) js
+abbrev pub leafHours : List ℕ → List ℕ → List ℕ
+leafHours hours js = map (hoursOf hours) js
 
 module _ (hours : List ℕ) (low : AllBelow (2 ^ hoursBits) hours) where
   read-leaf : (j d : ℕ) (rest : List ℕ) → j < 2 ^ 7 → readTree (suc d) (treeBits hours (leaf j) ++ rest) ≡ some ((leaf j, hoursOf hours j ∷ []), rest)
@@ -74,30 +74,30 @@ module _ (hours : List ℕ) (low : AllBelow (2 ^ hoursBits) hours) where
 
     pub read-tree
         : (t : Tree) (d : ℕ) → Small (leaves t) → groups t < d → (rest : List ℕ)
-        → readTree d (treeBits hours t ++ rest) ≡ some ((t, hoursIn hours (leaves t)), rest)
+        → readTree d (treeBits hours t ++ rest) ≡ some ((t, leafHours hours (leaves t)), rest)
     read-tree (leaf j) zero h l rest = absurd (omega arith)
     read-tree (leaf j) (suc d) h l rest = read-leaf j d rest (below-head (h .0))
     read-tree (node k t f) zero h l rest = absurd (omega arith)
     read-tree (node k t f) (suc d) h l rest =
         let (c, e) = others f in
         let children =
-        read-more hours (readTree d) t (hoursIn hours (leaves t)) rest c f (hoursIn hours (forestLeaves f))
+        read-more hours (readTree d) t (leafHours hours (leaves t)) rest c f (leafHours hours (forestLeaves f))
         (λ left. read-tree t d (small-left (leaves t) (forestLeaves f) h) (omega arith) left)
         (read-forest f d c e (small-right (leaves t) (forestLeaves f) h) (omega arith) rest) in
         let few : moreChildren f < 2 ^ 7 = omega (arith, h .1, length-append (leaves t) (forestLeaves f), groups-lt t, forest-groups f) in
         rw (append-assoc (bits 7 (moreChildren f)) (treeBits hours t ++ forestBits hours f) rest, map-append (hoursOf hours) (leaves t) (forestLeaves f))
-        (read-group d (moreChildren f) k t f (hoursIn hours (leaves t) ++ hoursIn hours (forestLeaves f))
+        (read-group d (moreChildren f) k t f (leafHours hours (leaves t) ++ leafHours hours (forestLeaves f))
         (treeBits hours t ++ forestBits hours f ++ rest) rest few (rw e children))
 
     read-forest
         : (f : Forest) (d c : ℕ) → moreChildren f ≡ suc c → Small (forestLeaves f) → forestGroups f < d → (rest : List ℕ)
-        → readForest (readTree d) c (forestBits hours f ++ rest) ≡ some ((f, hoursIn hours (forestLeaves f)), rest)
-    read-forest (last t) d zero e h l rest = read-last hours (readTree d) t (hoursIn hours (leaves t)) rest (read-tree t d h l rest)
+        → readForest (readTree d) c (forestBits hours f ++ rest) ≡ some ((f, leafHours hours (forestLeaves f)), rest)
+    read-forest (last t) d zero e h l rest = read-last hours (readTree d) t (leafHours hours (leaves t)) rest (read-tree t d h l rest)
     read-forest (last t) d (suc c) e h l rest = absurd (omega arith)
     read-forest (more t f) d zero e h l rest = absurd (omega (arith, forest-groups f))
     read-forest (more t f) d (suc c) e h l rest =
         rw (map-append (hoursOf hours) (leaves t) (forestLeaves f))
-        (read-more hours (readTree d) t (hoursIn hours (leaves t)) rest c f (hoursIn hours (forestLeaves f))
+        (read-more hours (readTree d) t (leafHours hours (leaves t)) rest c f (leafHours hours (forestLeaves f))
         (λ left. read-tree t d (small-left (leaves t) (forestLeaves f) h) (omega arith) left)
         (read-forest f d c (omega arith) (small-right (leaves t) (forestLeaves f) h) (omega arith) rest))
 
@@ -108,7 +108,7 @@ pub record TreeRead (bs : List ℕ) (t : Tree) (hs rest : List ℕ) : Type 0 whe
   pub size : length hs ≡ length (leaves t)
   pub low : AllBelow (2 ^ hoursBits) hs
   pub left : AllBelow 2 rest
-  pub these : (hours : List ℕ) → hoursIn hours (leaves t) ≡ hs → bs ≡ treeBits hours t ++ rest
+  pub these : (hours : List ℕ) → leafHours hours (leaves t) ≡ hs → bs ≡ treeBits hours t ++ rest
 
 -- a reader of trees takes the bits of its tree and no others
 abbrev pub Sound : Reader (Tree × List ℕ) → Type 0
@@ -119,17 +119,17 @@ pub record ForestRead (c : ℕ) (bs : List ℕ) (f : Forest) (hs rest : List ℕ
   pub size : length hs ≡ length (forestLeaves f)
   pub low : AllBelow (2 ^ hoursBits) hs
   pub left : AllBelow 2 rest
-  pub these : (hours : List ℕ) → hoursIn hours (forestLeaves f) ≡ hs → bs ≡ forestBits hours f ++ rest
+  pub these : (hours : List ℕ) → leafHours hours (forestLeaves f) ≡ hs → bs ≡ forestBits hours f ++ rest
   pub number : moreChildren f ≡ suc c
 
 -- hours of two parts
 parted
-    : (hours js ks hs gs : List ℕ) → length hs ≡ length js → hoursIn hours (js ++ ks) ≡ hs ++ gs → (hoursIn hours js ≡ hs) × (hoursIn hours ks ≡ gs)
+    : (hours js ks hs gs : List ℕ) → length hs ≡ length js → leafHours hours (js ++ ks) ≡ hs ++ gs → (leafHours hours js ≡ hs) × (leafHours hours ks ≡ gs)
 parted hours js ks hs gs e is =
-    let whole : hoursIn hours js ++ hoursIn hours ks ≡ hs ++ gs = sym (map-append (hoursOf hours) js ks) ∙ is in
-    let long : length (hoursIn hours js) ≡ length hs = length-map js (hoursOf hours) ∙ sym e in (
-      sym (take-at (hoursIn hours js) (hoursIn hours ks) (length hs) long) ∙ ap (take (length hs)) whole ∙ take-at hs gs (length hs) refl,
-      sym (drop-at (hoursIn hours js) (hoursIn hours ks) (length hs) long) ∙ ap (drop (length hs)) whole ∙ drop-at hs gs (length hs) refl,
+    let whole : leafHours hours js ++ leafHours hours ks ≡ hs ++ gs = sym (map-append (hoursOf hours) js ks) ∙ is in
+    let long : length (leafHours hours js) ≡ length hs = length-map js (hoursOf hours) ∙ sym e in (
+      sym (take-at (leafHours hours js) (leafHours hours ks) (length hs) long) ∙ ap (take (length hs)) whole ∙ take-at hs gs (length hs) refl,
+      sym (drop-at (leafHours hours js) (leafHours hours ks) (length hs) long) ∙ ap (drop (length hs)) whole ∙ drop-at hs gs (length hs) refl,
     )
 
 forest-more
@@ -194,7 +194,7 @@ group-read b k c f s hs bs after-kind after-number rest h kind number forest e =
       left = forest .left;
       these = λ hours is.
           let others : after-kind ≡ bits 7 c ++ (forestBits hours f ++ rest) =
-          number .these ∙ ap (λ (l : List ℕ). bits 7 c ++ l) (forest .these hours (ap (hoursIn hours) same ∙ is)) in
+          number .these ∙ ap (λ (l : List ℕ). bits 7 c ++ l) (forest .these hours (ap (leafHours hours) same ∙ is)) in
           ap₂ _∷_ one (kind .these ∙ ap₂ _++_ kind-bit others)
           ∙ sym (append-assoc (1 ∷ kindBit (kindOf k) ∷ bits 7 c) (forestBits hours f) rest)
           ∙ ap (λ (l : List ℕ). l ++ rest) (group-bits hours (kindOf k) f s c e (forest .number) .0);

@@ -18,7 +18,7 @@ use Rattle.record.proofs.Below.{below-append, below-rest}
 use Rattle.record.proofs.Fields.{length-bits, bits-below, read-back, after, Read, bits-read}
 use Rattle.record.proofs.Bytes.{Filled, bitsOf-below, bytes-filled, filled-length, filled-unique}
 use Rattle.record.proofs.Sizes.{leaves-below, leaf-once, length-leaves, groups-lt, length-treeBits, treeBits-below, spans-small}
-use Rattle.record.proofs.Reading.{hoursIn, TreeRead, read-tree, tree-read}
+use Rattle.record.proofs.Reading.{leafHours, TreeRead, read-tree, tree-read}
 use Rattle.record.proofs.Entries.{map-agree, entries, made, length-below, beside-map, beside-below, beside-each}
 use Rattle.record.proofs.Tests.{fills-zeros, zeros-fill, spanning-spans}
 
@@ -82,9 +82,9 @@ unfolding decode bind
 decode-steps bytes after-count left m t hs p q = rw (p, q)
 
 module _ (n : ℕ) (t : Tree) (s : Spans n t) where
-  by-job : (hours : List ℕ) → length hours ≡ n → byJob n t (hoursIn hours (leaves t)) ≡ hours
+  by-job : (hours : List ℕ) → length hours ≡ n → byJob n t (leafHours hours (leaves t)) ≡ hours
   by-job hours e =
-      map-agree (λ j. beside j (leaves t) (hoursIn hours (leaves t))) (hoursOf hours) (below n)
+      map-agree (λ j. beside j (leaves t) (leafHours hours (leaves t))) (hoursOf hours) (below n)
       (λ j m. beside-map (hoursOf hours) j (leaves t) (count-mem j (leaves t) (omega (arith, leaf-once n t s j (mem-below n m)))))
       ∙ ap (λ (k : ℕ). map (hoursOf hours) (below k)) (sym e)
       ∙ entries hours
@@ -95,7 +95,7 @@ module _ (n : ℕ) (t : Tree) (s : Spans n t) where
     | no l ↦ omega (arith, count-zero u (leaves t) (λ m. l (leaves-below n t s u m)))
   ]
 
-  by-leaf : (hs : List ℕ) → length hs ≡ length (leaves t) → hoursIn (byJob n t hs) (leaves t) ≡ hs
+  by-leaf : (hs : List ℕ) → length hs ≡ length (leaves t) → leafHours (byJob n t hs) (leaves t) ≡ hs
   by-leaf hs e =
       map-agree (hoursOf (byJob n t hs)) (λ j. beside j (leaves t) hs) (leaves t)
       (λ j m. made (λ i. beside i (leaves t) hs) n j (leaves-below n t s j m))
@@ -111,13 +111,13 @@ decode-layout n hours t p l s c each low =
     let one-less : suc (n - 1) ≡ n = omega arith in
     let enough : groups t < length (treeBits hours t ++ zeros) =
     omega (arith, length-append (treeBits hours t) zeros, length-treeBits hours t, groups-lt t) in
-    decode-steps (layout n hours t) (treeBits hours t ++ zeros) zeros (n - 1) t (hoursIn hours (leaves t))
+    decode-steps (layout n hours t) (treeBits hours t ++ zeros) zeros (n - 1) t (leafHours hours (leaves t))
     (ap (readBits 7) (f .same ∙ append-assoc (bits 7 (n - 1)) (treeBits hours t) zeros) ∙ read-back 7 (n - 1) (treeBits hours t ++ zeros) (omega arith))
     (read-tree hours low t (length (treeBits hours t ++ zeros)) (spans-small n t l s) enough zeros)
     ∙ ap₂ onlyIf
     (and-intro (fills zeros) (canonical t && spanning (suc (n - 1)) t) (fills-zeros (f .fill) (f .few))
     (and-intro (canonical t) (spanning (suc (n - 1)) t) c (rw one-less (spanning-spans n t .1 s))))
-    (ap (λ (k : ℕ). (k, t, byJob k t (hoursIn hours (leaves t)))) one-less ∙ ap (λ (x : List ℕ). (n, t, x)) (by-job n t s hours each))
+    (ap (λ (k : ℕ). (k, t, byJob k t (leafHours hours (leaves t)))) one-less ∙ ap (λ (x : List ℕ). (n, t, x)) (by-job n t s hours each))
 
 -- and back
 

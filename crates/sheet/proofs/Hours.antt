@@ -10,7 +10,7 @@ use Rattle.poset.specs.Order.{Arc}
 use Rattle.sheet.specs.Text.{mostDigits, hoursDigits, lineEndings}
 use Rattle.sheet.specs.Scan.{countField, hoursField, Read, broken, most, hoursAhead, arcsAhead, fieldOf, endings, afterHours, ended, whole, scanFrom, scan}
 use Rattle.sheet.specs.Reading.{ReadsNumber, atLine}
-use Rattle.sheet.specs.Listing.{hoursListing, AddsHours, resultOf, hoursIn, arcsOf, Answers, ArcsAnswer, atHours, ReadsHours}
+use Rattle.sheet.specs.Listing.{hoursListing, AddsHours, resultOf, hoursIn, arcsIn, Answers, ArcsAnswer, atHours, ReadsHours}
 use Rattle.sheet.specs.declared.line.Part.the-variants as part
 use Rattle.sheet.specs.declared.HoursRead.the-variants as hours-read
 use Rattle.sheet.specs.declared.SheetRead.{SheetRead}
@@ -36,69 +36,64 @@ module _ {rest : List ℕ} where
   unfolding endings most
   hours-fault r = leads-within (r .scans (hoursField 0 [] 0) refl refl .0 .leads) (omega arith)
 
--- the hours of the lines ahead of a place are read and listed
-pub record Timing (s : List ℕ) (n : ℕ) (held list : List ℕ) (at i : ℕ) : Type 0 where
+-- the hours of the first jobs, in the lines ahead of a place, are read and listed, and so many lines are left
+pub record Timing (s : List ℕ) (n : ℕ) (held list : List ℕ) (at job left : ℕ) : Type 0 where
   pub hours : List ℕ
-  pub many : length hours ≡ i
-  pub left : ℕ
-  pub all : i + left ≡ n
+  pub many : length hours ≡ job
+  pub all : job + left ≡ n
   pub scans : (start : ℕ) → scanFrom (atHours n [] n) start s ≡ scanFrom (atHours n hours left) (start + at) (drop at s)
   pub listed : list ≡ hoursListing hours held
   pub within : at ≤ length s
 
-pub timing-start : (s : List ℕ) (n : ℕ) (held : List ℕ) → Timing s n held held 0 0
+pub timing-start : (s : List ℕ) (n : ℕ) (held : List ℕ) → Timing s n held held 0 0 n
 timing-start s n held = record {
   hours = [];
   many = refl;
-  left = n;
   all = omega arith;
   scans = λ start. let e : start ≡ start + 0 = omega arith in ap (λ (x : ℕ). scanFrom (atHours n [] n) x s) e;
   listed = hours-none held;
   within = omega arith;
 }
 
-module _ {s : List ℕ} {n : ℕ} {held list : List ℕ} {at i : ℕ} (g : Timing s n held list at i) where
+module _ {s : List ℕ} {n : ℕ} {held list : List ℕ} {at job left : ℕ} (g : Timing s n held list at job left) where
   pub timing-length : length list ≡ length held
   timing-length = ap length (g .listed) ∙ hours-length (g .hours) held
 
-  -- one line of hours more is wanted
-  one-left : i < n → (left : ℕ) × (g .left ≡ suc left)
-  one-left l = nonzero (g .left) (g .all)
-    where
-      nonzero : (k : ℕ) → i + k ≡ n → (j : ℕ) × (k ≡ suc j)
-      nonzero zero e = absurd (omega arith)
-      nonzero (suc k) e = (k, refl)
+  -- one line more
+  module _ (l : 0 < left) {rest : List ℕ} (is : rest ≡ drop at s) where
+    abbrev later : ℕ
+    later = left - 1
 
-  module _ (l : i < n) {rest : List ℕ} (is : rest ≡ drop at s) where
-    wanted
-        : (start : ℕ) → scanFrom (atHours n [] n) start s ≡ scanFrom (atHours n (g .hours) (suc (one-left l .0))) (start + at + 0) (drop 0 rest)
+    one-more : left ≡ suc later
+    one-more = omega arith
+
+    wanted : (start : ℕ) → scanFrom (atHours n [] n) start s ≡ scanFrom (atHours n (g .hours) (suc later)) (start + at + 0) (drop 0 rest)
     wanted start =
         let e : start + at ≡ start + at + 0 = omega arith in
         g .scans start
-        ∙ ap (λ (k : ℕ). scanFrom (atHours n (g .hours) k) (start + at) (drop at s)) (one-left l .1)
-        ∙ ap (λ (x : ℕ). scanFrom (atHours n (g .hours) (suc (one-left l .0))) x (drop at s)) e
-        ∙ ap (scanFrom (atHours n (g .hours) (suc (one-left l .0))) (start + at + 0)) (sym is)
+        ∙ ap (λ (k : ℕ). scanFrom (atHours n (g .hours) k) (start + at) (drop at s)) one-more
+        ∙ ap (λ (x : ℕ). scanFrom (atHours n (g .hours) (suc later)) x (drop at s)) e
+        ∙ ap (scanFrom (atHours n (g .hours) (suc later)) (start + at + 0)) (sym is)
 
     length-of : length rest ≡ length s - at
     length-of = ap length is ∙ length-drop at s
 
     pub timing-on
-        : {v last : ℕ} {next : List ℕ} → ReadsNumber hoursDigits lineEndings rest 0 (part.Number v last) → AddsHours i v list next
-        → Timing s n held next (at + (last + 1)) (i + 1)
+        : {v last : ℕ} {next : List ℕ} → ReadsNumber hoursDigits lineEndings rest 0 (part.Number v last) → AddsHours job v list next
+        → Timing s n held next (at + (last + 1)) (job + 1) (left - 1)
     unfolding ended endings most afterHours
     timing-on {v} {last} r p =
         let after : drop (last + 1) rest ≡ drop (at + (last + 1)) s = ap (drop (last + 1)) is ∙ drop-drop (last + 1) at s in
         record {
           hours = g .hours ++ (v ∷ []);
           many = omega (arith, g .many, length-append (g .hours) (v ∷ []));
-          left = one-left l .0;
-          all = omega (arith, g .all, one-left l .1);
+          all = omega (arith, g .all);
           scans = λ start.
               let e : start + at + (last + 1) ≡ start + (at + (last + 1)) = omega arith in
               wanted start
-              ∙ leads-scan (start + at) (r .scans (hoursField n (g .hours) (one-left l .0)) refl refl)
-              ∙ ap (λ (x : ℕ). scanFrom (atHours n (g .hours ++ (v ∷ [])) (one-left l .0)) x (drop (last + 1) rest)) e
-              ∙ ap (scanFrom (atHours n (g .hours ++ (v ∷ [])) (one-left l .0)) (start + (at + (last + 1)))) after;
+              ∙ leads-scan (start + at) (r .scans (hoursField n (g .hours) later) refl refl)
+              ∙ ap (λ (x : ℕ). scanFrom (atHours n (g .hours ++ (v ∷ [])) later) x (drop (last + 1) rest)) e
+              ∙ ap (scanFrom (atHours n (g .hours ++ (v ∷ [])) later) (start + (at + (last + 1)))) after;
           listed = p .adds (g .hours) held (g .many) (g .listed);
           within = omega (arith, g .within, hours-within r, length-of);
         }
@@ -110,16 +105,16 @@ module _ {s : List ℕ} {n : ℕ} {held list : List ℕ} {at i : ℕ} (g : Timin
       scans = λ start.
           let e : start + at + place ≡ start + (at + place) = omega arith in
           wanted start
-          ∙ breaks-scan (start + at) (r .scans (hoursField n (g .hours) (one-left l .0)) refl refl .0) (inl refl) (omega arith)
+          ∙ breaks-scan (start + at) (r .scans (hoursField n (g .hours) later) refl refl .0) (inl refl) (omega arith)
           ∙ ap (λ (x : ℕ). broken x (g .hours) []) e;
       listed = g .listed;
       within = omega (arith, g .within, hours-fault r, length-of);
     }
 
-  pub timing-done : n ≤ i → ReadsHours s n held (hours-read.Until at) list
+  pub timing-done : left ≤ 0 → ReadsHours s n held (hours-read.Until at) list
   unfolding afterHours
   timing-done l =
-      let none-left : g .left ≡ 0 = omega (arith, g .all) in
+      let none-left : left ≡ 0 = omega arith in
       record {
         hours = g .hours;
         scans = λ start. g .scans start ∙ ap (λ (k : ℕ). scanFrom (atHours n (g .hours) k) (start + at) (drop at s)) none-left;
@@ -143,7 +138,7 @@ module _ {s : List ℕ} {n : ℕ} {held-hours hours : List ℕ} where
   pub timed-broken
       : {place : ℕ} → ReadsHours s n held-hours (hours-read.Broken place) hours → (start : ℕ) (held : List ℕ)
       → Answers (scanFrom (atHours n [] n) start s) held-hours held (Broken (start + place)) hours held
-  unfolding resultOf hoursIn arcsOf
+  unfolding resultOf hoursIn arcsIn
   timed-broken {place} t start held =
       subst (λ (x : Read). Answers x held-hours held (Broken (start + place)) hours held) (sym (t .scans start))
       (record { result = refl; hours-listed = t .listed; listed = listing-none held })
@@ -170,7 +165,7 @@ module _ {s held-hours held : List ℕ} where
 
   pub answers-broken
       : {place : ℕ} → ReadsNumber mostDigits lineEndings s 0 (part.Broken place) → Answers (scan s) held-hours held (Broken place) held-hours held
-  unfolding scan endings most resultOf hoursIn arcsOf hoursAhead arcsAhead fieldOf whole
+  unfolding scan endings most resultOf hoursIn arcsIn hoursAhead arcsAhead fieldOf whole
   answers-broken {place} c =
       let e : 0 + place ≡ place = omega arith in
       subst (λ (x : Read). Answers x held-hours held (Broken place) held-hours held)

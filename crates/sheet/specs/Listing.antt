@@ -41,21 +41,21 @@ unfoldable pub hoursIn : Read → List ℕ
 hoursIn (sheet n hours arcs) = hours
 hoursIn (broken at hours arcs) = hours
 
-unfoldable pub arcsOf : Read → List Arc
-arcsOf (sheet n hours arcs) = arcs
-arcsOf (broken at hours arcs) = arcs
+unfoldable pub arcsIn : Read → List Arc
+arcsIn (sheet n hours arcs) = arcs
+arcsIn (broken at hours arcs) = arcs
 
 -- a read of a sheet, as a result and two lists
 pub record Answers (read : Read) (held-hours held : List ℕ) (r : SheetRead) (hours list : List ℕ) : Type 0 where
   pub result : r ≡ resultOf read
   pub hours-listed : hours ≡ hoursListing (hoursIn read) held-hours
-  pub listed : list ≡ listing (arcsOf read) held
+  pub listed : list ≡ listing (arcsIn read) held
 
 -- a read of order lines, where these hours were read ahead of them
 pub record ArcsAnswer (hours : List ℕ) (read : Read) (held : List ℕ) (r : SheetRead) (list : List ℕ) : Type 0 where
   pub result : r ≡ resultOf read
   pub after : hoursIn read ≡ hours
-  pub listed : list ≡ listing (arcsOf read) held
+  pub listed : list ≡ listing (arcsIn read) held
 
 -- the state where so many lines of hours are still to come
 abbrev pub atHours : ℕ → List ℕ → ℕ → State

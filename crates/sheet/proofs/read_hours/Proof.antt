@@ -14,10 +14,10 @@ use Rattle.sheet.proofs.read_hours.Statement.{statement}
 use Rattle.sheet.proofs.read_hours.Tie as tie
 
 abbrev Inv-loop : tie.InvT-loop
-Inv-loop s count hours₀ at₀ i₀ hours at i = Timing s count hours₀ hours at i
+Inv-loop s count hours₀ at₀ job₀ left₀ hours at job left = Timing s count hours₀ hours at job left
 
 abbrev μ-loop : tie.MeasureT-loop
-μ-loop s count hours₀ at₀ i₀ hours at i = count - i
+μ-loop s count hours₀ at₀ job₀ left₀ hours at job left = left
 
 -- what is said of the line after those that were read
 abbrev Read : tie.At-loop Inv-loop μ-loop → Part → Type 0
@@ -50,14 +50,16 @@ hours-line-requires c κs = search needs
 enum-known-found : tie.Need-enum-known-found Inv-loop μ-loop
 enum-known-found c = search needs
 
-cast-put-hours : tie.Need-cast-put-hours Inv-loop μ-loop
-cast-put-hours c = search needs
-
 put-hours-requires : tie.Need-put-hours-requires Inv-loop μ-loop
 put-hours-requires c κs = search needs
 
-add-i : tie.Need-add-i Inv-loop μ-loop
-add-i c = search needs
+add-job : tie.Need-add-job Inv-loop μ-loop
+add-job c =
+    let l = c .before .before .before .before .before .before .before .before .before .before in
+    omega (arith, l .loop .inv .all, l .before .before .before .fits)
+
+sub-left : tie.Need-sub-left Inv-loop μ-loop
+sub-left c = search needs
 
 add-at : tie.Need-add-at Inv-loop μ-loop
 add-at c =
@@ -86,8 +88,8 @@ loop-again c =
 enum-known-found-2 : tie.Need-enum-known-found-2 Inv-loop μ-loop
 enum-known-found-2 c = search needs
 
-add-t19 : tie.Need-add-t19 Inv-loop μ-loop
-add-t19 c =
+add-t20 : tie.Need-add-t20 Inv-loop μ-loop
+add-t20 c =
     let f = c .before in
     let l = f .before .before .before .before .before in
     let o = l .before .before .before in
@@ -120,15 +122,15 @@ read-hours-spec =
     part-hours-line-end
     hours-line-requires
     enum-known-found
-    cast-put-hours
     put-hours-requires
-    add-i
+    add-job
+    sub-left
     add-at
     add-at-2
     loop-less
     loop-again
     enum-known-found-2
-    add-t19
+    add-t20
     same-length
     returns
     same-length-2

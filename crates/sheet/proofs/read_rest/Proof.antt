@@ -15,17 +15,17 @@ Read f =
     let o = f .before .before .before .before .before in
     λ r. ReadsHours (o .args .s .now) (o .args .count) (o .args .hours .now) r (f .read-hours .last .1 .1 .0)
 
-until : (c : tie.After-timed) → Read (c .before .before .before .before) (hours-read.Until (c .timed .given .0 .0))
-until c = subst (Read (c .before .before .before .before)) (c .timed .given .1) (c .before .before .before .before .read-hours .ensures)
+until : (c : tie.After-found) → Read (c .before .before .before .before) (hours-read.Until (c .found .given .0 .0))
+until c = subst (Read (c .before .before .before .before)) (c .found .given .1) (c .before .before .before .before .read-hours .ensures)
 
-fault : (c : tie.After-timed2) → Read (c .before .before .before .before) (hours-read.Broken (c .timed2 .given .0 .0))
-fault c = subst (Read (c .before .before .before .before)) (c .timed2 .given .1) (c .before .before .before .before .read-hours .ensures)
+fault : (c : tie.After-found2) → Read (c .before .before .before .before) (hours-read.Broken (c .found2 .given .0 .0))
+fault c = subst (Read (c .before .before .before .before)) (c .found2 .given .1) (c .before .before .before .before .read-hours .ensures)
 
 read-hours-requires : tie.Need-read-hours-requires
 read-hours-requires c κs = search needs
 
-enum-known-timed : tie.Need-enum-known-timed
-enum-known-timed c = search needs
+enum-known-found : tie.Need-enum-known-found
+enum-known-found c = search needs
 
 sub-read-lines : tie.Need-sub-read-lines
 sub-read-lines c = until (c .before) .within
@@ -46,10 +46,10 @@ read-lines-requires : tie.Need-read-lines-requires
 read-lines-requires c κs =
     let k = c .before .before .before in
     let o = k .before .before .before .before .before .before .before .before .before in
-    omega (arith, length-rest (o .args .s .now) (k .timed .given .0 .0) (until k .within), o .pre)
+    omega (arith, length-rest (o .args .s .now) (k .found .given .0 .0) (until k .within), o .pre)
 
-enum-known-timed-2 : tie.Need-enum-known-timed-2
-enum-known-timed-2 c = search needs
+enum-known-found-2 : tie.Need-enum-known-found-2
+enum-known-found-2 c = search needs
 
 add-t19 : tie.Need-add-t19
 add-t19 c =
@@ -67,7 +67,7 @@ returns : tie.Need-returns
 returns c =
     let k = c .before .before .before .before .before .before in
     let o = k .before .before .before .before .before .before .before .before .before in
-    timed-lines (until k) (o .args .start) (rest-of (o .args .s .now) (k .timed .given .0 .0)) (c .before .before .read-lines .ensures)
+    timed-lines (until k) (o .args .start) (rest-of (o .args .s .now) (k .found .given .0 .0)) (c .before .before .read-lines .ensures)
 
 same-length-3 : tie.Need-same-length-3
 same-length-3 c = search needs
@@ -83,13 +83,13 @@ read-rest-spec =
     tie.close
     (tie.spec
     read-hours-requires
-    enum-known-timed
+    enum-known-found
     sub-read-lines
     part-read-lines-start
     part-read-lines-end
     add-read-lines
     read-lines-requires
-    enum-known-timed-2
+    enum-known-found-2
     add-t19
     same-length
     same-length-2
