@@ -52,8 +52,8 @@ extern "C" {
 #define ORDERSHEET_REDUCED_AREA 8192  /* two bytes for each of the most reduced orders, 4,096 */
 #define ORDERSHEET_STACK 65536        /* bytes of stack that are enough for a call */
 
-/* The analysis of a sheet. On acceptance the record, which has the hours, is in the one area and the reduced orders, two
- * bytes each, in the other. */
+/* The analysis of a sheet. On acceptance the record, which has the hours, is in the one area and the reduced orders,
+ * two bytes each, in the other. */
 uint64_t ordersheet_analyse(const uint8_t *sheet, size_t sheet_length, uint8_t *record, size_t record_room,
                             uint8_t *reduced, size_t reduced_room);
 
