@@ -78,6 +78,9 @@ static void explain(uint64_t answer)
     case 11:
         printf("the bytes are not the record of any plain tree\n");
         break;
+    case 13:
+        printf("the hours of job %u are above %d\n", first, ORDERSHEET_HOURS);
+        break;
     }
 }
 

@@ -1,12 +1,16 @@
 /* Order sheets and cutting records: the planning desk's two calls.
  *
+ * A sheet is a line with the job count, then as many lines as the count says, each with one job's hours from job 0 on,
+ * then a line for each order, two job numbers with one space between. A number has one to three digits, hours one to
+ * four, and no leading zero. A line ends in \n or \r\n.
+ *
  * Each call hands back its answer as one 64-bit number:
  *
  *     number + 2^8 * first + 2^24 * second + 2^40 * third + 2^48 * fourth
  *
  * Number 0 is acceptance; its places are the record's bytes, the reduced orders, the groups in the tree, and 0.
- * The others are refusals, tested in the order 1 to 10 for a sheet and 11, 10 for a record. A place that is not
- * named here is 0. Orders, jobs and bytes are counted from 0.
+ * The others are refusals, tested in the order 1, 2, 3, 4, 13, 5, 6, 7, 8, 9, 10 for a sheet and 11, 10 for a record.
+ * A place that is not named here is 0. Orders, jobs and bytes are counted from 0.
  *
  *      1  the sheet is longer than ORDERSHEET_SHEET bytes
  *      2  the sheet breaks the line form; first: the byte where it does, or the sheet's length where it stops short
@@ -19,6 +23,8 @@
  *      9  the record area is shorter than the record
  *     10  the area for reduced orders is shorter than two bytes for each
  *     11  the bytes offered as a record are not the record of any plain tree
+ *     12  the hours list is not as long as the job count; of pair lists only, which neither call takes
+ *     13  a job's hours are above ORDERSHEET_HOURS; first: the first such job
  *
  * A refusal leaves the areas untouched. On acceptance the bytes after the written ones stay. ORDERSHEET_RECORD_AREA
  * and ORDERSHEET_REDUCED_AREA bytes are always enough, and 9 and 10 are then never given. Any lengths may be lent.
@@ -26,7 +32,7 @@
  * A pointer is good for as many bytes as the length after it says; where that is 0 it is not followed. An area
  * overlaps neither the other area nor the input. The calls never fail otherwise, whatever the input is: they
  * allocate nothing, keep nothing between calls, and may run on several threads at once. A call takes less than
- * ORDERSHEET_STACK bytes of stack: tests/stack/stack.c measures up to 45,000 for a sheet and 16,000 for bytes offered
+ * ORDERSHEET_STACK bytes of stack: tests/stack/stack.c measures up to 46,000 for a sheet and 16,000 for bytes offered
  * as a record. */
 
 #ifndef ORDERSHEET_H
@@ -40,13 +46,14 @@ extern "C" {
 #endif
 
 #define ORDERSHEET_JOBS 128           /* the most jobs */
-#define ORDERSHEET_SHEET 36869        /* bytes of the longest sheet */
-#define ORDERSHEET_RECORD_AREA 272    /* bytes of the longest record */
+#define ORDERSHEET_HOURS 4095         /* the most hours of a job */
+#define ORDERSHEET_SHEET 37637        /* bytes of the longest sheet */
+#define ORDERSHEET_RECORD_AREA 464    /* bytes of the longest record */
 #define ORDERSHEET_REDUCED_AREA 8192  /* two bytes for each of the most reduced orders, 4,096 */
 #define ORDERSHEET_STACK 65536        /* bytes of stack that are enough for a call */
 
-/* The analysis of a sheet, whose lines end in \n or \r\n. On acceptance the record is in the one area and the reduced
- * orders, two bytes each, in the other. */
+/* The analysis of a sheet. On acceptance the record, which has the hours, is in the one area and the reduced orders,
+ * two bytes each, in the other. */
 uint64_t ordersheet_analyse(const uint8_t *sheet, size_t sheet_length, uint8_t *record, size_t record_room,
                             uint8_t *reduced, size_t reduced_room);
 

@@ -23,7 +23,7 @@ static inline unsigned ones(uint64_t x) {
 }
 static inline unsigned size(set a) { return ones(a.w[0]) + ones(a.w[1]); }
 
-enum { LONGEST = 272, NO_RECORD = 11, NO_ROOM = 10 };
+enum { LONGEST = 464, GROUP = 9, LEAF = 20, NO_RECORD = 11, NO_ROOM = 10 };   // bytes of a record, bits of a node; a leaf's last twelve are its hours
 
 // A part of the tree. least: its smallest job. first, last: the ends of its part of the reverse sequence.
 typedef struct { uint8_t least, first, last; } part;
@@ -60,14 +60,14 @@ static inline __attribute__((always_inline)) int read_tree(const uint8_t *record
             e++;
             if (by_tree) memset(e, 0, sizeof *e);
             groups++;
-            at += 9;
+            at += GROUP;
             continue;
         }
         unsigned job = bits >> 8 & 127;
         if (job >= n || has(seen, job)) return 0;
         seen.w[job >> 6] |= 1ull << (job & 63);
         r->forward[placed++] = job;
-        at += 8;
+        at += LEAF;
         p = (part){job, job, job};
         if (by_tree) f = (ends){only(job), only(job), 1, 1};
         // p is read whole: into its group, and that one too if it was the last child
@@ -116,14 +116,14 @@ static inline int child(place *s, unsigned kind, part *p) {
     if (bits & 0x8000) {
         unsigned other = bits >> 14 & 1, more = bits >> 7 & 127;
         if (more == 0 || s->groups + 1 == s->n || other == kind) return 0;
-        s->groups++, s->at += 9;
+        s->groups++, s->at += GROUP;
         return children(s, other, more, p);
     }
     unsigned job = bits >> 8 & 127;
     if (job >= s->n || has(s->seen, job)) return 0;
     s->seen.w[job >> 6] |= 1ull << (job & 63);
     s->r->forward[s->placed++] = job;
-    s->at += 8;
+    s->at += LEAF;
     *p = (part){job, job, job};
     return 1;
 }
@@ -265,17 +265,20 @@ static double calls(const row *r, int i, int many) {
     return (now() - start) / many;
 }
 
-static unsigned below(unsigned n) {   // xorshift, from a fixed seed
-    static uint64_t s = 20240607;
-    s ^= s << 13; s ^= s >> 7; s ^= s << 17;
-    return (s >> 33) % n;
+static unsigned drawn(uint64_t *s, unsigned n) {   // xorshift
+    *s ^= *s << 13; *s ^= *s >> 7; *s ^= *s << 17;
+    return (*s >> 33) % n;
 }
+// from fixed seeds, the hours from one of their own
+static unsigned below(unsigned n) { static uint64_t s = 20240607; return drawn(&s, n); }
+static unsigned hours(void) { static uint64_t s = 19720517; return drawn(&s, ORDERSHEET_HOURS + 1); }
 static char text[ORDERSHEET_SHEET + 16]; static size_t chars;
 static int name[128];   // the job that a position stands for
 static void start(int n, int shuffled) {
     for (int i = 0; i < n; i++) name[i] = i;
     if (shuffled) for (int i = n - 1; i > 0; i--) { int j = below(i + 1), t = name[i]; name[i] = name[j]; name[j] = t; }
     chars = sprintf(text, "%d\n", n);
+    for (int i = 0; i < n; i++) chars += sprintf(text + chars, "%u\n", hours());
 }
 static void arc(int u, int v) { if (chars + 8 <= ORDERSHEET_SHEET) chars += sprintf(text + chars, "%d %d\n", name[u], name[v]); }
 static size_t record_of(uint8_t *record) {
@@ -299,6 +302,14 @@ static void shape(const char *name) {
     add(name, record, length);
     shapes = count;
 }
+static unsigned node_at(const uint8_t *b, unsigned at) { return (b[at >> 3] << 8 | b[(at >> 3) + 1]) << (at & 7) & 0xffff; }
+static int is_group(const uint8_t *b, unsigned at) { return node_at(b, at) >> 15; }
+// The last bit of a job number, of the first leaf that begins past the middle, or of the last leaf.
+static int job_bit(const row *r) {
+    unsigned n = (r->bytes[0] >> 1) + 1, k = 0, at = 7, leaf = 0;
+    for (; k < n && leaf < 4 * r->length; at += is_group(r->bytes, at) ? GROUP : LEAF) if (!is_group(r->bytes, at)) leaf = at, k++;
+    return leaf + 7;
+}
 static void damaged(const char *what, int i, int bit, int more) {
     uint8_t bytes[ORDERSHEET_RECORD_AREA + 1] = {0};
     char name[48];
@@ -318,7 +329,7 @@ static ends series_parallel(int lo, int hi, int wide, int series) {
     for (set s = a.sinks; some(s); s = rest(s)) for (set t = b.sources; some(t); t = rest(t)) arc(low(s), low(t));
     return (ends){a.sources, b.sinks, 0, 0};
 }
-// Groups in groups, of two children each and both kinds in turn, that never end: 272 bytes.
+// Groups in groups, of two children each and both kinds in turn, that never end: as many bytes as a record may have.
 static void endless(void) {
     uint8_t bytes[ORDERSHEET_RECORD_AREA] = {0};
     unsigned at = 0;
@@ -330,7 +341,6 @@ static void endless(void) {
     add("81 80 81 80 ..", bytes, sizeof bytes);
 }
 
-static unsigned node_at(const uint8_t *b, unsigned at) { return (b[at >> 3] << 8 | b[(at >> 3) + 1]) << (at & 7) & 0xffff; }
 static void put_leaf(uint8_t *b, unsigned at, unsigned job) {
     for (int i = 0; i < 7; i++) {
         unsigned k = at + 1 + i, mask = 128 >> (k & 7);
@@ -340,7 +350,7 @@ static void put_leaf(uint8_t *b, unsigned at, unsigned job) {
 // Two leaves change their jobs: another record, or children out of order.
 static void exchange(uint8_t *b) {
     unsigned leaf[128], n = (b[0] >> 1) + 1, k = 0;
-    for (unsigned at = 7; k < n; at += node_at(b, at) & 0x8000 ? 9 : 8) if (!(node_at(b, at) & 0x8000)) leaf[k++] = at;
+    for (unsigned at = 7; k < n; at += is_group(b, at) ? GROUP : LEAF) if (!is_group(b, at)) leaf[k++] = at;
     unsigned x = leaf[below(n)], y = leaf[below(n)], i = node_at(b, x) >> 8, j = node_at(b, y) >> 8;
     put_leaf(b, x, j);
     put_leaf(b, y, i);
@@ -395,7 +405,7 @@ int main(int argc, char **argv) {
     shape("as deep, shuffled");
     start(5, 0); arc(0, 1); arc(0, 2); arc(1, 3); arc(2, 3); arc(0, 3); shape("the paper's example");
     start(1, 0); shape("one job");
-    for (int i = 0; i < shapes; i++) damaged("one bit", i, 4 * rows[i].length, 0);
+    for (int i = 0; i < shapes; i++) damaged("one bit", i, job_bit(&rows[i]), 0);
     for (int i = 0; i < shapes; i++) damaged("a byte more", i, -1, 1);
     endless();
     compare();

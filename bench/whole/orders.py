@@ -6,10 +6,11 @@ import time
 import networkx
 
 lines = sys.stdin.read().split("\n")
-pairs = [tuple(map(int, line.split())) for line in lines[1:] if line]
+jobs = int(lines[0])
+pairs = [tuple(map(int, line.split())) for line in lines[1 + jobs:] if line]
 start = time.perf_counter()
 graph = networkx.DiGraph()
-graph.add_nodes_from(range(int(lines[0])))
+graph.add_nodes_from(range(jobs))
 graph.add_edges_from(pairs)
 if networkx.is_directed_acyclic_graph(graph):
     closure = networkx.transitive_closure_dag(graph)

@@ -1,5 +1,6 @@
 // Makes the sheets that the benchmark runs on, the same each time: sheets DIR writes DIR/NAME.sheet and prints the names in the table's order.
 // sheets DIR crlf writes them with carriage return and line feed at each line's end, and one more with either end.
+// sheets DIR former writes them without hours lines, in the form that versions ahead of those lines read, and leaves out those that are about hours.
 #include <stdint.h>
 #include <stdio.h>
 #include <stdlib.h>
@@ -11,11 +12,20 @@ static int orders[MOST][2], count;
 static int name_of[JOBS];          // the job that a position stands for
 static char before[JOBS][JOBS];    // an order over positions
 static enum { LF, CRLF, EITHER } ends;
+static int former;                 // no hours lines
+static int over = -1;              // the job with hours above the most, or -1
 
-static unsigned below(unsigned n) {   // xorshift, from a fixed seed
-    static uint64_t s = 20240607;
-    s ^= s << 13; s ^= s >> 7; s ^= s << 17;
-    return (s >> 33) % n;
+static unsigned drawn(uint64_t *s, unsigned n) {   // xorshift
+    *s ^= *s << 13; *s ^= *s >> 7; *s ^= *s << 17;
+    return (*s >> 33) % n;
+}
+// From fixed seeds. Hours have one of their own: the orders are the same with and without them.
+static unsigned below(unsigned n) { static uint64_t s = 20240607; return drawn(&s, n); }
+static unsigned hours(void) {   // of one to four digits, as many of each
+    static uint64_t s = 19720517;
+    static const unsigned from[] = {0, 10, 100, 1000, 4096};
+    unsigned digits = drawn(&s, 4);
+    return from[digits] + drawn(&s, from[digits + 1] - from[digits]);
 }
 static void in_turn(void) { for (int i = 0; i < JOBS; i++) name_of[i] = i; }
 static void shuffled(void) {
@@ -40,15 +50,23 @@ static FILE *open_sheet(const char *name) {
     return f;
 }
 static const char *line_end(void) { return ends == CRLF || (ends == EITHER && below(2)) ? "\r\n" : "\n"; }
-static void text(const char *name, const char *t) {
+static void count_and_hours(FILE *f, int jobs) {
+    fprintf(f, "%d%s", jobs, line_end());
+    for (int i = 0; i < jobs && !former; i++) {
+        unsigned h = hours();
+        fprintf(f, "%u%s", i == over ? 4096 : h, line_end());
+    }
+}
+static void text(const char *name, int jobs, const char *t) {
     FILE *f = open_sheet(name);
+    count_and_hours(f, jobs);
     for (; *t; t++) if (*t == '\n') fputs(line_end(), f); else putc(*t, f);
     fclose(f);
 }
-// last: what stands for the last line's end, where it is not 0
+// last: what stands for the last order's line end, where it is not 0
 static void sheet_ending(const char *name, int jobs, const char *last) {
     FILE *f = open_sheet(name);
-    fprintf(f, "%d%s", jobs, count || !last ? line_end() : last);
+    count_and_hours(f, jobs);
     for (int i = 0; i < count; i++) fprintf(f, "%d %d%s", orders[i][0], orders[i][1], i + 1 < count || !last ? line_end() : last);
     fclose(f);
 }
@@ -84,13 +102,18 @@ static void line(int most) {
 static void last_four(void) { add(124, 126); add(125, 126); add(125, 127); }
 
 int main(int argc, char **argv) {
-    if (argc != 2 && (argc != 3 || strcmp(argv[2], "crlf"))) return 1;
+    if (argc != 2 && argc != 3) return 1;
     dir = argv[1];
-    ends = argc == 3 ? CRLF : LF;
-    text("smallest", "1\n");
-    text("example", "5\n0 1\n0 2\n1 3\n2 3\n0 3\n");
-    text("five", "5\n0 2\n1 2\n1 3\n0 4\n4 3\n1 4\n");
-    text("five-crossed", "5\n0 2\n1 2\n1 3\n0 4\n4 3\n");
+    ends = LF;
+    if (argc == 3) {
+        if (!strcmp(argv[2], "crlf")) ends = CRLF;
+        else if (!strcmp(argv[2], "former")) former = 1;
+        else return 1;
+    }
+    text("smallest", 1, "");
+    text("example", 5, "0 1\n0 2\n1 3\n2 3\n0 3\n");
+    text("five", 5, "0 2\n1 2\n1 3\n0 4\n4 3\n1 4\n");
+    text("five-crossed", 5, "0 2\n1 2\n1 3\n0 4\n4 3\n");
     start(); sheet("no-order", 128);
     start(); for (int u = 0; u < 127; u++) add(u, u + 1); sheet("series", 128);
     start(); for (int u = 127; u > 0; u--) add(u, u - 1); sheet("series-back", 128);
@@ -109,6 +132,7 @@ int main(int argc, char **argv) {
     last_four(); sheet("crossed-late", 128);
     line(4095); add(127, 0); mix(); sheet("circle", 128);
     bipartite(); sheet_ending("broken-last", 128, " ");
+    if (!former) { over = 127; start(); sheet("hours-over", 128); over = -1; }
     if (ends == CRLF) { ends = EITHER; bipartite(); sheet("either", 128); }
     return 0;
 }

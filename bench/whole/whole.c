@@ -1,9 +1,9 @@
-// Document 01's analysis of a sheet in C, to compare with: one pass over the sheet, sets of two 64-bit words, no work on jobs that the
+// The papers' analysis of a sheet in C, to compare with: one pass over the sheet, sets of two 64-bit words, no work on jobs that the
 // sheet does not have, and nothing read past the sheet's end. Compiled with -DNAME=, the name of its one function.
 #include "whole.h"
 #include <string.h>
 
-enum { LONGEST = 36869, LINE = 9 };   // the most bytes of a sheet, and of a line
+enum { LONGEST = 37637, LINE = 9, COUNT = 999, HOURS = 4095 };   // the most bytes of a sheet, and of a line; the greatest count, and hours
 
 typedef struct { uint64_t w[2]; } set;
 
@@ -29,19 +29,22 @@ static inline uint64_t answer(uint64_t number, uint64_t a, uint64_t b, uint64_t 
     return number | a << 8 | b << 24 | c << 40 | d << 48;
 }
 
-// What one pass over the order lines finds. far, own: one more than the first order with a job not below n, from a job to itself.
-typedef struct { unsigned n, orders, far, own; const uint8_t *at; } scan;
+// What one pass over the lines finds. n: the count, or 0 above 128. times, any: the hours lines, and the bits that any of them has. far, own: one more than
+// the first order with a job not below n, from a job to itself.
+typedef struct { unsigned count, n, times, any, orders, far, own; const uint8_t *at; } scan;
 
-// A number of one to three digits, no leading zero: the place after it, or p where there is none. A byte is read only after digits.
-static inline const uint8_t *number(const uint8_t *p, unsigned *x) {
-    unsigned a = p[0] - '0', b, c;
+// A number of one to three digits, or four, no leading zero: the place after it, or p where there is none. A byte is read only after digits.
+static inline const uint8_t *number(const uint8_t *p, unsigned *x, int four) {
+    unsigned a = p[0] - '0', b, c, d;
     if (a > 9) return p;
     *x = a;
     if (a == 0 || (b = p[1] - '0') > 9) return p + 1;
     *x = 10 * a + b;
     if ((c = p[2] - '0') > 9) return p + 2;
     *x = 100 * a + 10 * b + c;
-    return p + 3;
+    if (!four || (d = p[3] - '0') > 9) return p + 3;
+    *x = 10 * *x + d;
+    return p + 4;
 }
 
 // Whether a line ends at q, in a line feed or in a carriage return and a line feed. Then q goes to its last byte, else to the byte that breaks it.
@@ -51,16 +54,36 @@ static inline int ends(const uint8_t **q, int crlf) {
     return __builtin_expect(**q == '\n', 1) || (**q == '\r' && *++*q == '\n');
 }
 
-// Order lines from f->at on, each into the table, until stop; whether the form holds. LINE bytes are there from every place ahead of stop. In line, so that
-// there is a loop for each line end that is expected.
+// Hours lines from f->at on, each into the list, until stop or as many as the count says; whether the form holds. LINE bytes are there from every place ahead
+// of stop. In line, so that there is a loop for each line end that is expected.
+static inline __attribute__((always_inline)) int times(scan *f, const uint8_t *stop, uint16_t *hours, int crlf) {
+    const uint8_t *p = f->at, *q;
+    unsigned x, k = f->times, count = f->count, any = f->any;
+    while (k < count && p < stop) {
+        q = number(p, &x, 1);
+        if (q == p || !ends(&q, crlf)) {
+            f->at = q;
+            return 0;
+        }
+        p = q + 1;
+        hours[k++] = x;
+        any |= x;
+    }
+    f->at = p;
+    f->times = k;
+    f->any = any;
+    return 1;
+}
+
+// Order lines from f->at on, each into the table, until stop; the rest as above.
 static inline __attribute__((always_inline)) int lines(scan *f, const uint8_t *stop, set *after, int crlf) {
     const uint8_t *p = f->at, *q;
     unsigned x, y, n = f->n, m = f->orders;
     while (p < stop) {
-        q = number(p, &x);
+        q = number(p, &x, 0);
         if (q == p || *q != ' ') goto broken;
         p = q + 1;
-        q = number(p, &y);
+        q = number(p, &y, 0);
         if (q == p || !ends(&q, crlf)) goto broken;
         p = q + 1;
         m++;
@@ -133,18 +156,22 @@ static void turn(set *under, const set *after, unsigned n) {
         }
 }
 
-// near: comparable jobs. bytes, at, value, have: the record's whole bytes, and up to 7 bits more.
-typedef struct { set near[128], under[128], parts[256]; uint8_t bytes[280]; unsigned at, value, have, groups; } tree;
+// near: comparable jobs. bytes, at, value, have: the record's bytes, four at a time, and up to 31 bits more.
+typedef struct { set near[128], under[128], parts[256]; const uint16_t *hours; uint8_t bytes[464]; uint64_t value; unsigned at, have, groups; } tree;
 
-static inline void put_byte(tree *t, unsigned field) {
-    t->value = t->value << 8 | field;
-    t->bytes[t->at++] = t->value >> t->have;
+static inline void put(tree *t, unsigned field, unsigned width) {
+    t->value = t->value << width | field;
+    t->have += width;
+    if (t->have >= 32) {
+        t->have -= 32;
+        uint32_t four = __builtin_bswap32(t->value >> t->have);
+        memcpy(t->bytes + t->at, &four, 4);
+        t->at += 4;
+    }
 }
-
+static inline void put_leaf(tree *t, unsigned job) { put(t, job << 12 | t->hours[job], 20); }
 static inline void put_group(tree *t, unsigned side, unsigned children) {
-    t->value = t->value << 1 | 1;
-    if (++t->have == 8) t->bytes[t->at++] = t->value, t->have = 0;
-    put_byte(t, side << 7 | (children - 1));
+    put(t, 2 << 7 | side << 7 | (children - 1), 9);
     t->groups++;
 }
 
@@ -178,7 +205,7 @@ static int children(tree *t, set *parts, unsigned k, int side) {
     put_group(t, side, k);
     for (unsigned i = 0; i < k; i++) {
         if (!some(but_low(parts[i]))) {
-            put_byte(t, low(parts[i]));
+            put_leaf(t, low(parts[i]));
             continue;
         }
         unsigned j = split(t, parts[i], !side, parts + k);
@@ -194,14 +221,14 @@ static int write_record(tree *t, unsigned n) {
     t->value = n - 1;
     t->have = 7;
     if (n == 1) {
-        put_byte(t, 0);
+        put_leaf(t, 0);
     } else {
         int side = 1;
         unsigned k = split(t, all, 1, t->parts);
         if (k == 1) side = 0, k = split(t, all, 0, t->parts);
         if (k == 1 || !children(t, t->parts, k, side)) return 0;
     }
-    if (t->have) t->bytes[t->at++] = t->value << (8 - t->have);
+    for (t->value <<= 32 - t->have; t->have; t->have = t->have > 8 ? t->have - 8 : 0, t->value <<= 8) t->bytes[t->at++] = t->value >> 24;
     return 1;
 }
 
@@ -248,20 +275,27 @@ uint64_t NAME(const uint8_t *sheet, size_t len, uint8_t *record, size_t record_r
 
     unsigned n = 0;
     set after[128];
-    const uint8_t *p = number(from, &n);
+    uint16_t hours[COUNT];
+    const uint8_t *p = number(from, &n, 0);
     if (p == from || !ends(&p, 0)) return answer(2, p - from, 0, 0, 0);
-    scan f = {n <= 128 ? n : 0, 0, 0, 0, p + 1};
+    scan f = {n, n <= 128 ? n : 0, 0, 0, 0, 0, 0, p + 1};
     memset(after, 0, f.n * sizeof *after);
     if (len >= LINE) {
         const uint8_t *stop = sheet + (len - LINE + 1);
-        if (!(p[-1] == '\r' ? lines(&f, stop, after, 1) : lines(&f, stop, after, 0))) return answer(2, f.at - sheet, 0, 0, 0);
+        if (!(p[-1] == '\r' ? times(&f, stop, hours, 1) && lines(&f, stop, after, 1) : times(&f, stop, hours, 0) && lines(&f, stop, after, 0)))
+            return answer(2, f.at - sheet, 0, 0, 0);
         start = f.at - sheet;
         from = f.at = memcpy(tail, f.at, len - start);
     }
-    if (!lines(&f, from + (len - start), after, 0)) return answer(2, start + (f.at - from), 0, 0, 0);
+    const uint8_t *stop = from + (len - start);
+    if (!times(&f, stop, hours, 0) || !lines(&f, stop, after, 0)) return answer(2, start + (f.at - from), 0, 0, 0);
+    if (f.times < n) return answer(2, len, 0, 0, 0);
 
     if (f.n == 0) return 3;
     if (f.orders > 4096) return 4;
+    if (f.any > HOURS)
+        for (unsigned i = 0; i < n; i++)
+            if (hours[i] > HOURS) return answer(13, i, 0, 0, 0);
     if (f.far) return answer(5, f.far - 1, 0, 0, 0);
     if (f.own) return answer(6, f.own - 1, 0, 0, 0);
     close(after, n);
@@ -269,6 +303,7 @@ uint64_t NAME(const uint8_t *sheet, size_t len, uint8_t *record, size_t record_r
         if (after[i].w[i >> 6] >> (i & 63) & 1) return answer(7, i, 0, 0, 0);
 
     tree t;
+    t.hours = hours;
     turn(t.under, after, n);
     for (unsigned i = 0; i < n; i++) t.near[i] = join(after[i], t.under[i]);
     if (!write_record(&t, n)) return first_n(after, &t, n);

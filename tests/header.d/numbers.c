@@ -15,6 +15,7 @@ static uint64_t (*const reread)(const uint8_t *, size_t, uint8_t *, size_t) = or
 enum { BEHIND = 64, FILL = 0xa5 }; /* bytes behind the longest area that stay as well, and what all are filled with */
 static char sheet[ORDERSHEET_SHEET + (1 << 16)];
 static const char *end = "\n"; /* of a line */
+static unsigned most = ORDERSHEET_HOURS; /* hours of job 0; each job has one less than the job ahead of it */
 static size_t length;
 static uint8_t record[ORDERSHEET_RECORD_AREA + BEHIND], reduced[ORDERSHEET_REDUCED_AREA + BEHIND], again[sizeof reduced];
 static unsigned passed, failed;
@@ -29,7 +30,12 @@ static void check(const char *name, const char *what, int holds)
     }
 }
 
-static void start(unsigned jobs) { length = (size_t)sprintf(sheet, "%u%s", jobs, end); }
+static void start(unsigned jobs)
+{
+    length = (size_t)sprintf(sheet, "%u%s", jobs, end);
+    for (unsigned i = 0; i < jobs; i++)
+        length += (size_t)sprintf(sheet + length, "%u%s", most - i, end);
+}
 static void order(unsigned u, unsigned v) { length += (size_t)sprintf(sheet + length, "%u %u%s", u, v, end); }
 
 static uint64_t packed(uint64_t number, uint64_t first, uint64_t second, uint64_t third, uint64_t fourth)
@@ -100,7 +106,7 @@ static void packing(void)
     order(1, 3);
     order(2, 3);
     order(0, 3);
-    accepted("DESK.md's sheet", 10, 4, 3);
+    accepted("DESK.md's sheet", 17, 4, 3);
     start(128);
     order(124, 126);
     order(125, 126);
@@ -111,9 +117,31 @@ static void packing(void)
 static void most_jobs(void)
 {
     start(ORDERSHEET_JOBS);
-    accepted("ORDERSHEET_JOBS", 130, 0, 1);
+    accepted("ORDERSHEET_JOBS", 322, 0, 1);
     start(ORDERSHEET_JOBS + 1);
     refused("ORDERSHEET_JOBS + 1", ORDERSHEET_RECORD_AREA, ORDERSHEET_REDUCED_AREA, 3, 0, 0, 0, 0);
+}
+
+/* The hours are those of the record, bit by bit: 4,095 of job 0 and 4,094 of job 1, which is before it. */
+static void most_hours(void)
+{
+    static const uint8_t bytes[] = {0x03, 0x01, 0x01, 0xff, 0xe0, 0x0f, 0xff};
+    start(2);
+    order(1, 0);
+    accepted("ORDERSHEET_HOURS", sizeof bytes, 1, 1);
+    check("ORDERSHEET_HOURS", "the record has other bytes", memcmp(record, bytes, sizeof bytes) == 0);
+    most++;
+    start(ORDERSHEET_JOBS);
+    order(ORDERSHEET_JOBS, 0);
+    refused("ORDERSHEET_HOURS + 1", ORDERSHEET_RECORD_AREA, ORDERSHEET_REDUCED_AREA, 13, 0, 0, 0, 0);
+    most = 9999;
+    start(2);
+    refused("hours of 9,999", ORDERSHEET_RECORD_AREA, ORDERSHEET_REDUCED_AREA, 13, 0, 0, 0, 0);
+    most = ORDERSHEET_HOURS;
+    length = (size_t)sprintf(sheet, "3\n0\n%u\n%u\n0 3\n", most, most + 1);
+    refused("ORDERSHEET_HOURS + 1, the last job", ORDERSHEET_RECORD_AREA, ORDERSHEET_REDUCED_AREA, 13, 2, 0, 0, 0);
+    length = (size_t)sprintf(sheet, "1\n10000\n");
+    refused("hours of five digits", ORDERSHEET_RECORD_AREA, ORDERSHEET_REDUCED_AREA, 2, 6, 0, 0, 0);
 }
 
 static void longest_sheet(void)
@@ -129,7 +157,7 @@ static void longest_sheet(void)
         order(100 + i / 14 % 14, 114 + i % 14);
     end = "\n";
     check("ORDERSHEET_SHEET", "the longest sheet has another length", length == ORDERSHEET_SHEET);
-    accepted("the longest sheet", 134, 196, 4);
+    accepted("the longest sheet", 326, 196, 4);
     length = ORDERSHEET_SHEET - 1;
     refused("the longest sheet but one byte", ORDERSHEET_RECORD_AREA, ORDERSHEET_REDUCED_AREA, 2, ORDERSHEET_SHEET - 1, 0, 0, 0);
     length = ORDERSHEET_SHEET + 1;
@@ -164,21 +192,35 @@ static void most_orders(void)
     for (unsigned u = 0; u < 64; u++)
         for (unsigned v = 64; v < 128; v++)
             order(u, v);
-    accepted("ORDERSHEET_REDUCED_AREA", 133, ORDERSHEET_REDUCED_AREA / 2, 3);
+    accepted("ORDERSHEET_REDUCED_AREA", 325, ORDERSHEET_REDUCED_AREA / 2, 3);
     check("ORDERSHEET_REDUCED_AREA", "odd", ORDERSHEET_REDUCED_AREA % 2 == 0);
-    unread("ORDERSHEET_REDUCED_AREA - 1, from a record", 133, ORDERSHEET_REDUCED_AREA - 1, 10);
-    unread("no record, and no area", 132, 0, 11);
+    unread("ORDERSHEET_REDUCED_AREA - 1, from a record", 325, ORDERSHEET_REDUCED_AREA - 1, 10);
+    unread("no record, and no area", 324, 0, 11);
     refused("ORDERSHEET_REDUCED_AREA - 1", ORDERSHEET_RECORD_AREA, ORDERSHEET_REDUCED_AREA - 1, 10, 0, 0, 0, 0);
+}
+
+/* Records without hours: one job, two in a chain, and 128 side by side. */
+static void older(void)
+{
+    memset(record, 0, sizeof record);
+    unread("one job without hours", 2, ORDERSHEET_REDUCED_AREA, 11);
+    memcpy(record, "\x03\x01\x01\x00", 4);
+    unread("two jobs without hours", 4, ORDERSHEET_REDUCED_AREA, 11);
+    memcpy(record, "\xff\xff", 2);
+    for (unsigned job = 0; job < 128; job++)
+        record[2 + job] = (uint8_t)job;
+    unread("128 jobs without hours", 130, ORDERSHEET_REDUCED_AREA, 11);
 }
 
 /* Lengths of 0 with no area, and lengths of more than 32 bits. */
 static void any_length(void)
 {
-    uint8_t bytes[2];
+    static const char one[] = "1\n9\n", two[] = "2\n8\n9\n0 1\n";
+    uint8_t bytes[4];
     is("no sheet", analyse(NULL, 0, NULL, 0, NULL, 0), 2, 0, 0, 0, 0);
-    is("no record area", analyse((const uint8_t *)"2\n0 1\n", 6, NULL, 0, NULL, 0), 9, 0, 0, 0, 0);
-    is("no area for orders, and none", analyse((const uint8_t *)"1\n", 2, bytes, 2, NULL, 0), 0, 2, 0, 0, 0);
-    is("no area for orders, and none to read", reread(bytes, 2, NULL, 0), 0, 2, 0, 0, 0);
+    is("no record area", analyse((const uint8_t *)two, sizeof two - 1, NULL, 0, NULL, 0), 9, 0, 0, 0, 0);
+    is("no area for orders, and none", analyse((const uint8_t *)one, sizeof one - 1, bytes, 4, NULL, 0), 0, 4, 0, 0, 0);
+    is("no area for orders, and none to read", reread(bytes, 4, NULL, 0), 0, 4, 0, 0, 0);
     is("no record", reread(NULL, 0, NULL, 0), 11, 0, 0, 0, 0);
 
     /* Only the first page can be read or written. */
@@ -188,11 +230,11 @@ static void any_length(void)
     if (area == MAP_FAILED)
         return;
     is("2^32 + 2 bytes as a record", reread(area, long_room + 2, NULL, 0), 11, 0, 0, 0, 0);
-    memcpy(area, "1\n", 2);
-    is("a sheet of 2^32 + 2 bytes", analyse(area, long_room + 2, bytes, 2, NULL, 0), 1, 0, 0, 0, 0);
-    is("a record area of 2^32 bytes", analyse((const uint8_t *)"1\n", 2, area, long_room, NULL, 0), 0, 2, 0, 0, 0);
-    is("an area of 2^32 bytes for orders", analyse((const uint8_t *)"2\n0 1\n", 6, record, sizeof record, area, long_room), 0, 4, 1, 1, 0);
-    is("an area of 2^32 bytes for orders read", reread(record, 4, area, long_room), 0, 4, 1, 1, 0);
+    memcpy(area, one, sizeof one - 1);
+    is("a sheet of 2^32 + 2 bytes", analyse(area, long_room + 2, bytes, 4, NULL, 0), 1, 0, 0, 0, 0);
+    is("a record area of 2^32 bytes", analyse((const uint8_t *)one, sizeof one - 1, area, long_room, NULL, 0), 0, 4, 0, 0, 0);
+    is("an area of 2^32 bytes for orders", analyse((const uint8_t *)two, sizeof two - 1, record, sizeof record, area, long_room), 0, 7, 1, 1, 0);
+    is("an area of 2^32 bytes for orders read", reread(record, 7, area, long_room), 0, 7, 1, 1, 0);
 }
 
 int main(void)
@@ -200,9 +242,11 @@ int main(void)
     setvbuf(stdout, NULL, _IOLBF, BUFSIZ);
     packing();
     most_jobs();
+    most_hours();
     longest_sheet();
     longest_record();
     most_orders();
+    older();
     any_length();
     printf("%u passed, %u failed\n", passed, failed);
     return passed == 0 || failed != 0;

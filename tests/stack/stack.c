@@ -62,7 +62,12 @@ static void measure(const char *name, void (*call)(void), unsigned number)
         wrong = 1;
 }
 
-static void start(unsigned jobs) { length = (size_t)sprintf(sheet, "%u%s", jobs, end); }
+static void start(unsigned jobs)
+{
+    length = (size_t)sprintf(sheet, "%u%s", jobs, end);
+    for (unsigned i = 0; i < jobs; i++)
+        length += (size_t)sprintf(sheet + length, "%u%s", ORDERSHEET_HOURS - i, end);
+}
 static void order(unsigned u, unsigned v) { length += (size_t)sprintf(sheet + length, "%u %u%s", u, v, end); }
 
 /* The sheet, and its record. */
@@ -95,8 +100,10 @@ static void nested(const char *name, unsigned leaves, unsigned side)
     for (; bits + 9 <= 8 * sizeof record; side = 1 - side) {
         put(2 + side, 2);
         put(127, 7);
-        for (unsigned job = 0; job < leaves && bits + 8 <= 8 * sizeof record; job++)
+        for (unsigned job = 0; job < leaves && bits + 20 <= 8 * sizeof record; job++) {
             put(job, 8);
+            put(ORDERSHEET_HOURS - job, 12);
+        }
         leaves = 0;
     }
     bytes = sizeof record;
