@@ -1,7 +1,6 @@
 // The readers of groups. Inside a series group (document 01: a chain) stand leaves and parallel groups, inside a parallel
 // group (a side group) leaves and series groups, so the two readers call each other, each over a reader of one child; from the one
 // reader to the other the bits left fall. A record has fewer groups than jobs, so reading stops at a group too many.
-use crate::nodes::LEAF_BITS;
 use crate::nodes::node_at;
 use crate::nodes::wide;
 use crate::parts::Part;
@@ -21,7 +20,7 @@ ghost use Rattle.reader.specs.Parts.{place, Ready, TreeRead, ChildRead, 
 pub fn place(done: u8, groups: u8) -> usize
     ensures { λ r. ⌜ r ≡ place done groups ⌝ }
 {
-    7 + LEAF_BITS * wide(done) + 9 * wide(groups)
+    7 + record::LEAF_BITS * wide(done) + 9 * wide(groups)
 }
 
 // `more` + 1 children of a chain.

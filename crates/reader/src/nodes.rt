@@ -7,9 +7,6 @@ ghost use Rattle.record.specs.Layout.{hoursBits, recordRoom};
 ghost use Rattle.record.specs.Decode.{fills};
 ghost use Rattle.reader.specs.Fields.{FieldAt, NodeAt};
 
-// The bits of a leaf: a 0, its job and its hours. No tree has fewer.
-pub const LEAF_BITS: usize = 20;
-
 // What a node begins with. tag: 0 a leaf, 1 a series group, 2 a parallel group, 3 none: the bits end, or a group has one
 // child. value: the job, or the children minus 1. hours: the job's.
 pub struct Node {
@@ -48,13 +45,13 @@ fn hours_at(bytes: &[u8], at: usize) -> u16
     (high * 16 + low) as u16
 }
 
-// The node at `at`.
+// The node at `at`. No tree has fewer bits than a leaf.
 pub fn node_at(bytes: &[u8], at: usize) -> Node
     requires { ⌜ (at ≤ 8 * recordRoom) × (length (now bytes) ≤ recordRoom) ⌝ }
     ensures { λ r. ⌜ NodeAt (bitsOf (now (bytes .entry))) at r ⌝ }
 {
     let end = 8 * bytes.len();
-    if end < at + LEAF_BITS {
+    if end < at + record::LEAF_BITS {
         return Node {
             tag: 3,
             value: 0,

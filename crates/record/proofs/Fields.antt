@@ -3,12 +3,12 @@ use Prim.Native.Nat.{ℕ, zero, suc, _+_, _*_, _/_, _%_, _^_, _<_}
 use mathlib.Core.Path.{_≡_, refl, sym, ap, ap₂, subst, _∙_}
 use mathlib.Core.List.{List, [], _∷_, _++_}
 use mathlib.Core.Option.{Option, some, bind, bind-eq-some-iff, Option·none-ne-some, Option·some-injective}
-use native.Mathlib.Nat.{zero-add, suc-add, add-comm, pow-suc, mul-add-div-right, mod-one, mod-lt, mod-eq-of-lt}
+use native.Mathlib.Nat.{zero-add, suc-add, add-comm, pow-suc, mul-assoc, mul-add-div-right, mod-one, mod-lt, mod-eq-of-lt}
 use native.Mathlib.Numerals.{add-one}
 use native.Mathlib.Omega.{arith}
 use lib.Arith.{digits-lt}
 use lib.ListN.{length}
-use lib.Pow.{pow-pos, high, shr-shr, mod-pow-add}
+use lib.Pow.{pow-pos, pow-add, split, high, shr-shr, mod-pow-add}
 use Rattle.record.specs.Bits.{AllBelow, bits}
 use Rattle.record.specs.Decode.{readBits}
 use Rattle.record.proofs.Below.{below-nil, below-cons, below-head, below-tail}
@@ -26,6 +26,7 @@ bits-below zero x = below-nil
 bits-below (suc k) x = below-cons (mod-lt _ (omega arith)) (bits-below k x)
 
 -- the low bits do not depend on the high part
+
 bits-low : (k x r : ℕ) → bits k (x * 2 ^ k + r) ≡ bits k r
 unfolding bits
 bits-low zero x r = refl
@@ -33,6 +34,12 @@ bits-low (suc k) x r =
     let shift : x * 2 ^ suc k + r ≡ x * 2 * 2 ^ k + r = rw (pow-suc 2 k) (omega arith) in
     let e : (x * 2 * 2 ^ k + r) / 2 ^ k ≡ x * 2 + r / 2 ^ k = mul-add-div-right (pow-pos k) (x * 2) r in
     rw shift (ap₂ _∷_ (rw e (omega arith)) (bits-low k (x * 2) r))
+
+pub bits-mod : (j k x : ℕ) → bits k (x % 2 ^ (j + k)) ≡ bits k x
+bits-mod j k x =
+    sym (bits-low k (x / 2 ^ (j + k) * 2 ^ j) (x % 2 ^ (j + k)))
+    ∙ ap (λ (h : ℕ). bits k (h + x % 2 ^ (j + k))) (mul-assoc (x / 2 ^ (j + k)) (2 ^ j) (2 ^ k) ∙ ap (λ (p : ℕ). x / 2 ^ (j + k) * p) (sym (pow-add 2 j k)))
+    ∙ ap (bits k) (split x (j + k))
 
 -- the bits of a number are those of its high part, then those of its low one
 pub bits-append : (j k x r : ℕ) → r < 2 ^ k → bits (j + k) (x * 2 ^ k + r) ≡ bits j x ++ bits k r

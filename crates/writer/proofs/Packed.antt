@@ -38,6 +38,7 @@ module _ (hours : List ℕ) where
 pub record SoFar (n : ℕ) (hours fields bytes : List ℕ) (p : Packing) (i : ℕ) : Type 0 where
   pub within : i ≤ length fields
   pub held : Holds (bits 7 (n - 1) ++ allBits hours (take i fields)) bytes p
+  pub few : p .have < 8
 
 module _ (n : ℕ) (hours fields : List ℕ) where
   pub start : 0 < n → n ≤ 128 → SoFar n hours fields (replicate recordRoom 0) (record { at = 0; have = 7; value = n - 1 }) 0
@@ -48,12 +49,11 @@ module _ (n : ℕ) (hours fields : List ℕ) where
         held = record {
           size = length-replicate {A = ℕ} recordRoom 0;
           whole = omega arith;
-          few = omega arith;
-          small = omega arith;
           low = below-nil;
           blank = refl;
           these = append-nil (bits 7 (n - 1));
         };
+        few = omega arith;
       }
 
   module _ (bytes : List ℕ) (p : Packing) (i : ℕ) (s : SoFar n hours fields bytes p i) where
@@ -67,6 +67,7 @@ module _ (n : ℕ) (hours fields : List ℕ) where
               (append-assoc (bits 7 (n - 1)) (allBits hours (take i fields)) (fieldBits hours (getD fields i 0))
               ∙ ap (λ l. bits 7 (n - 1) ++ l) (sym (all-next hours fields i h) ∙ ap (λ k. allBits hours (take k fields)) (sym (add-one i))))
               (step .held _ (s .held));
+          few = step .few;
         }
 
     -- there is room
@@ -87,7 +88,7 @@ module _ (n : ℕ) (hours fields : List ℕ) where
 
     module _ (room : 7 + length (allBits hours fields) ≤ 8 * recordRoom) where
       pub ready : Ready p 0
-      ready = record { room = omega (arith, held-length, all-length hours fields i); few = s .held .few; small = s .held .small }
+      ready = record { room = omega (arith, held-length, all-length hours fields i); few = s .few }
 
       pub ready-for-field : i < length fields → Ready p (length (fieldBits hours (getD fields i 0)))
       ready-for-field h =
@@ -100,8 +101,7 @@ module _ (n : ℕ) (hours fields : List ℕ) where
                   ap length (all-next hours fields i h),
                   length-append (allBits hours (take i fields)) (fieldBits hours (getD fields i 0)),
                 );
-            few = s .held .few;
-            small = s .held .small;
+            few = s .few;
           }
 
     pub done : (bytes′ : List ℕ) (count : ℕ) → length fields ≤ i → ((bs : List ℕ) → Holds bs bytes p → Ends bs bytes′ count)

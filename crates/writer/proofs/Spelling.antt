@@ -22,19 +22,18 @@ use Rattle.writer.specs.Tokens.{groupToken, tokens, forestTokens, shape}
 use Rattle.writer.specs.Written.{filled, written}
 use Rattle.writer.specs.declared.tree.Shape.{Shape}
 use Rattle.writer.specs.declared.writing.Written.{Written}
-use Rattle.writer.proofs.Packs.{leaf-bits, group-bits}
+use Rattle.writer.proofs.Packs.{leaf-is, group-is}
 
 module _ (hours : List ℕ) where
   leaf-token : (j : ℕ) → j < 128 → fieldBits hours j ≡ 0 ∷ bits 7 j ++ bits hoursBits (hoursOf hours j)
   leaf-token j l =
       let e : j ≡ 0 * 2 ^ 7 + j = omega arith in
-      leaf-bits hours j l ∙ ap (λ x. x ++ bits hoursBits (hoursOf hours j)) (ap (bits 8) e ∙ bits-cons 7 0 j (omega arith) (omega arith))
+      leaf-is hours j l ∙ ap (λ x. x ++ bits hoursBits (hoursOf hours j)) (ap (bits 8) e ∙ bits-cons 7 0 j (omega arith) (omega arith))
 
   group-token : (k : Kind) (m : ℕ) → m < 128 → fieldBits hours (groupToken k m) ≡ 1 ∷ kindBit k ∷ bits 7 m
   group-token k m l =
       let e : groupToken k m % 256 ≡ kindBit k * 2 ^ 7 + m = omega (arith, kind-below k) in
-      group-bits hours (groupToken k m) (omega arith)
-      ∙ ap₂ _++_ (bit-alone 1 (omega arith)) (ap (bits 8) e ∙ bits-cons 7 (kindBit k) m (kind-below k) (omega arith))
+      group-is hours (groupToken k m) (omega arith) ∙ ap (λ l. 1 ∷ l) (ap (bits 8) e ∙ bits-cons 7 (kindBit k) m (kind-below k) (omega arith))
 
 -- a group has at most 128 children
 children-few : (t : Tree) (f : Forest) → Small (leaves t ++ forestLeaves f) → moreChildren f < 128

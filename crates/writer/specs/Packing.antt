@@ -1,6 +1,6 @@
 -- Fields of bits as bytes, and what a packing holds.
 -- An inner contract: who reads the promise of write_record need not believe it, but specs/Written.antt alone.
-use Prim.Native.Nat.{ℕ, _+_, _*_, _-_, _%_, _≤_, _<_, _^_}
+use Prim.Native.Nat.{ℕ, _+_, _*_, _-_, _%_, _≤_, _<_}
 use mathlib.Core.Path.{_≡_}
 use mathlib.Core.List.{List, _∷_, _++_}
 use mathlib.Core.Bool.{true, false}
@@ -15,26 +15,35 @@ use Rattle.writer.specs.declared.pack.Packing.{Packing}
 unfoldable pub fieldBits : List ℕ → ℕ → List ℕ
 fieldBits hours x = elim (ltb x 128) [ true ↦ bits 8 x ++ bits hoursBits (hoursOf hours x) | false ↦ 1 ∷ bits 8 (x % 256) ]
 
--- there is room for so many bits more
+-- fewer than 8 bits are in hand, and there is room for so many more
 pub record Ready (p : Packing) (more : ℕ) : Type 0 where
   pub room : 8 * p .at + p .have + more ≤ 8 * recordRoom
   pub few : p .have < 8
-  pub small : p .value < 2 ^ p .have
 
 -- the bits bs are the whole bytes and the bits in hand; the other bytes are 0
 pub record Holds (bs bytes : List ℕ) (p : Packing) : Type 0 where
   pub size : length bytes ≡ recordRoom
   pub whole : p .at ≤ recordRoom
-  pub few : p .have < 8
-  pub small : p .value < 2 ^ p .have
   pub low : AllBelow 256 (take (p .at) bytes)
   pub blank : drop (p .at) bytes ≡ replicate (recordRoom - p .at) 0
   pub these : bs ≡ bitsOf (take (p .at) bytes) ++ bits (p .have) (p .value)
 
--- these bits more are held, in as much room
+-- these bits more are in hand
+pub record Takes (these : List ℕ) (p q : Packing) : Type 0 where
+  pub place : q .at ≡ p .at
+  pub more : q .have ≡ p .have + length these
+  pub bits-are : bits (q .have) (q .value) ≡ bits (p .have) (p .value) ++ these
+
+-- the same bits are held, one whole byte more
+pub record Moves (bytes : List ℕ) (p : Packing) (bytes′ : List ℕ) (q : Packing) : Type 0 where
+  pub place : q .at ≡ p .at + 1
+  pub fewer : q .have + 8 ≡ p .have
+  pub held : (bs : List ℕ) → Holds bs bytes p → Holds bs bytes′ q
+
+-- these bits more are held, fewer than 8 of all in hand
 pub record Puts (these bytes : List ℕ) (p : Packing) (bytes′ : List ℕ) (q : Packing) : Type 0 where
   pub held : (bs : List ℕ) → Holds bs bytes p → Holds (bs ++ these) bytes′ q
-  pub left : (more : ℕ) → Ready p (length these + more) → Ready q more
+  pub few : q .have < 8
 
 -- the bytes of the bits bs, and how many there are
 pub record Ends (bs bytes : List ℕ) (count : ℕ) : Type 0 where

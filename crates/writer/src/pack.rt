@@ -1,54 +1,55 @@
 //! Bit fields, one after another, as bytes.
 ghost use mathlib.Core.Path.{_≡_};
-ghost use mathlib.Core.List.{List, _++_, flatMap};
+ghost use mathlib.Core.List.{List, [], _++_, flatMap};
 ghost use Prim.Native.Nat.{ℕ, _+_, _*_, _-_, _<_, _≤_, _^_};
 ghost use lib.ListN.{length};
 ghost use Rattle.record.specs.Bits.{AllBelow, bits};
-ghost use Rattle.record.specs.Layout.{hoursBits, leafBits, recordRoom};
-ghost use Rattle.writer.specs.Packing.{Holds, Ready, Puts, fieldBits, Ends};
+ghost use Rattle.record.specs.Layout.{hoursBits, recordRoom};
+ghost use Rattle.writer.specs.Packing.{Holds, Ready, Takes, Moves, Puts, fieldBits, Ends};
 
-// So many whole bytes, and some bits more, fewer than 8, by their value.
+// So many whole bytes, and some bits more in hand: the last ones of a value.
 pub struct Packing {
     pub at: usize,
     pub have: usize,
     pub value: usize,
 }
 
-// So many bits more, at most 8: they complete a byte, or stay in hand.
-fn put_bits(
-    bytes: &mut [u8; record::RECORD_ROOM],
-    p: Packing,
-    width: usize,
-    field: usize,
-) -> Packing
-    requires { ⌜ Ready p width ⌝ }
-    requires { ⌜ (width ≤ 8) × (field < 2 ^ width) ⌝ }
-    ensures { λ r. ⌜ Puts (bits width field) (now (bytes .entry)) p (now (bytes .exit)) r ⌝ }
+// So many bits more in hand.
+fn taken(p: Packing, width: usize, field: usize) -> Packing
+    requires { ⌜ (p .have + width < 64) × (field < 2 ^ width) ⌝ }
+    ensures { λ r. ⌜ Takes (bits width field) p r ⌝ }
 {
-    let at = p.at;
-    let have = p.have + width;
-    let value = (p.value << width) + field;
-    if have < 8 {
-        return Packing { at, have, value };
-    }
-    let rest = have - 8;
-    bytes[at] = ((value >> rest) % 256) as u8;
     Packing {
-        at: at + 1,
-        have: rest,
-        value: value % (1 << rest),
+        at: p.at,
+        have: p.have + width,
+        value: (p.value << width) + field,
     }
 }
 
-// A leaf more: its job, and 12 bits of hours.
-fn put_leaf(bytes: &mut [u8; record::RECORD_ROOM], p: Packing, job: usize, hours: usize) -> Packing
-    requires { ⌜ Ready p leafBits ⌝ }
-    requires { ⌜ (job < 256) × (hours < 2 ^ hoursBits) ⌝ }
-    ensures { λ r. ⌜ Puts (bits 8 job ++ bits hoursBits hours) (now (bytes .entry)) p (now (bytes .exit)) r ⌝ }
+// The first eight bits in hand go to their place as a byte.
+fn moved(bytes: &mut [u8; record::RECORD_ROOM], p: Packing) -> Packing
+    requires { ⌜ (8 ≤ p .have) × (p .have < 64) × (p .at < recordRoom) ⌝ }
+    ensures { λ r. ⌜ Moves (now (bytes .entry)) p (now (bytes .exit)) r ⌝ }
 {
-    let q = put_bits(bytes, p, 8, job);
-    let r = put_bits(bytes, q, 8, hours / 16);
-    put_bits(bytes, r, 4, hours % 16)
+    let at = p.at;
+    let rest = p.have - 8;
+    bytes[at] = ((p.value >> rest) % 256) as u8;
+    Packing {
+        at: at + 1,
+        have: rest,
+        value: p.value,
+    }
+}
+
+// The same, if there are eight.
+fn moved_if_full(bytes: &mut [u8; record::RECORD_ROOM], p: Packing) -> Packing
+    requires { ⌜ (p .have < 16) × (8 ≤ p .have → p .at < recordRoom) ⌝ }
+    ensures { λ r. ⌜ Puts [] (now (bytes .entry)) p (now (bytes .exit)) r ⌝ }
+{
+    if p.have < 8 {
+        return p;
+    }
+    moved(bytes, p)
 }
 
 // One field more: a leaf with its job's hours, or a group.
@@ -63,10 +64,14 @@ fn put_field(
     ensures { λ r. ⌜ Puts (fieldBits (now (hours .entry)) field) (now (bytes .entry)) p (now (bytes .exit)) r ⌝ }
 {
     if field < 128 {
-        put_leaf(bytes, p, field, wide(hours[field]))
+        let leaf = taken(p, record::LEAF_BITS, field * 4096 + wide(hours[field]));
+        let one = moved(bytes, leaf);
+        let two = moved(bytes, one);
+        moved_if_full(bytes, two)
     } else {
-        let q = put_bits(bytes, p, 1, 1);
-        put_bits(bytes, q, 8, field % 256)
+        let group = taken(p, 9, 256 + field % 256);
+        let one = moved(bytes, group);
+        moved_if_full(bytes, one)
     }
 }
 

@@ -26,7 +26,7 @@ add-result c = search needs
 returns-2 : tie.Need-returns-2
 returns-2 c bs h =
     let s = c .before .before in
-    holds-last bs (s .args .bytes .now) (s .args .p) (omega (arith, s .pre .room, c .before .if1 .left)) (c .before .if1 .left) h
+    holds-last bs (s .args .bytes .now) (s .args .p) (omega (arith, s .pre .room, c .before .if1 .left)) (s .pre .few) (c .before .if1 .left) h
 
 pub finish-spec : {M : Type 1} → statement M
 finish-spec =
