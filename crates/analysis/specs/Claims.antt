@@ -80,6 +80,10 @@ pub record RecordYield (bytes : List ℕ) (o : Outcome) : Type 0 where
   pub reverse-is : o .reverse ≡ reversed tree
   pub hours-are : o .hours ≡ hours
 
+-- no job has more hours than it may have
+abbrev pub Moderate : List ℕ → Type 0
+Moderate hours = (h : ℕ) → List·Memᴰ h hours → h ≤ mostHours
+
 -- the same answer, reduced arcs and sequences
 pub record AlikeButHours (a b : Outcome) : Type 0 where
   pub same-verdict : a .verdict ≡ b .verdict

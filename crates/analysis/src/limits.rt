@@ -47,7 +47,7 @@ fn of_list(list: &[u16], n: u16, hours: &[u16], bytes: &mut [u8], area: &mut [u8
     }
 }
 
-// A count that is within its limits.
+// A count and arcs that are within their limits.
 fn of_hours(list: &[u16], n: u16, hours: &[u16], bytes: &mut [u8], area: &mut [u8]) -> Analysis
     requires { ⌜ (0 < n) × (n ≤ 128) ⌝ }
     ensures { λ r. ⌜ Gives (timed (rooms (now (bytes .entry)) (now (area .entry))) n (now (hours .entry)) (pairs (now (list .entry))))

@@ -1,4 +1,4 @@
-// A record read back: its job count, groups and sequences, or that the bytes are no record; and the order of the sequences.
+// A record read back: its job count, groups, sequences and hours, or that the bytes are no record; and the order of the sequences.
 pub mod ahead;
 mod groups;
 mod nodes;

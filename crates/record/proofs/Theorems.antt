@@ -54,6 +54,6 @@ layout-size = Records.layout-size
 pub layout-below : (n : ℕ) (hours : List ℕ) (t : Tree) → AllBelow 256 (layout n hours t)
 layout-below = Records.layout-below
 
--- records of document 01, and bytes that are none
+-- records of document 01 with hours of 0 at each leaf, one with other hours, and bytes that are none
 pub decoded : map (λ (e : Example). decode (e .0)) examples ≡ map (λ (e : Example). e .1) examples
 decoded = Examples.decoded

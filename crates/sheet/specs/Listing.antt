@@ -22,14 +22,6 @@ hoursListing hours held = overlay (take (length held) hours) held
 unfoldable pub listing : List Arc → List ℕ → List ℕ
 listing arcs held = overlay (arcBytes (take (length held / 2) arcs)) held
 
--- a list with the hours of job i beside those ahead of it
-pub record AddsHours (i h : ℕ) (entry exit : List ℕ) : Type 0 where
-  pub adds : (hours held : List ℕ) → length hours ≡ i → entry ≡ hoursListing hours held → exit ≡ hoursListing (hours ++ (h ∷ [])) held
-
--- a list with arc i beside those ahead of it
-pub record AddsArc (i u v : ℕ) (entry exit : List ℕ) : Type 0 where
-  pub adds : (arcs : List Arc) (held : List ℕ) → length arcs ≡ i → entry ≡ listing arcs held → exit ≡ listing (arcs ++ ((u, v) ∷ [])) held
-
 -- the result of a read: the count and how many arcs, or the place of the fault
 unfoldable pub resultOf : Read → SheetRead
 resultOf (sheet n hours arcs) = Sheet n (length arcs)
@@ -50,6 +42,16 @@ pub record Answers (read : Read) (held-hours held : List ℕ) (r : SheetRead) (h
   pub result : r ≡ resultOf read
   pub hours-listed : hours ≡ hoursListing (hoursIn read) held-hours
   pub listed : list ≡ listing (arcsIn read) held
+
+-- Inner contracts: who reads the promise of read_sheet need not believe what follows.
+
+-- a list with the hours of job i beside those ahead of it
+pub record AddsHours (i h : ℕ) (entry exit : List ℕ) : Type 0 where
+  pub adds : (hours held : List ℕ) → length hours ≡ i → entry ≡ hoursListing hours held → exit ≡ hoursListing (hours ++ (h ∷ [])) held
+
+-- a list with arc i beside those ahead of it
+pub record AddsArc (i u v : ℕ) (entry exit : List ℕ) : Type 0 where
+  pub adds : (arcs : List Arc) (held : List ℕ) → length arcs ≡ i → entry ≡ listing arcs held → exit ≡ listing (arcs ++ ((u, v) ∷ [])) held
 
 -- a read of order lines, where these hours were read ahead of them
 pub record ArcsAnswer (hours : List ℕ) (read : Read) (held : List ℕ) (r : SheetRead) (list : List ℕ) : Type 0 where
