@@ -1,20 +1,61 @@
 -- What is known of the lists after a sheet is read.
-use Prim.Native.Nat.{ℕ, _*_, _/_, _≤_}
+use Prim.Native.Nat.{ℕ, _+_, _*_, _≤_, _<_}
 use mathlib.Core.Path.{_≡_, refl, sym, ap, _∙_}
-use mathlib.Core.List.{List}
+use mathlib.Core.List.{List, [], _∷_, _++_, map}
 use mathlib.Core.Bool.{Bool, true, false}
+use mathlib.Core.Logic.{_⊎_, ⊎-elim}
+use native.Mathlib.Decide.{decLt}
 use native.Mathlib.Omega.{arith}
-use lib.ListN.{length, take, replicate}
+use lib.ListN.{length, take, length-append}
 use Rattle.poset.specs.Areas.{arcBytes}
 use Rattle.poset.specs.Order.{Arc}
 use Rattle.poset.proofs.Laws.{clash}
-use Rattle.sheet.specs.Text.{LineForm}
+use Rattle.sheet.specs.Text.{LineEnd, feed, returnFeed, endBytes, space, decimal, arcText, lines, text, LineForm}
 use Rattle.sheet.specs.Scan.{Read, sheet, broken, scan}
 use Rattle.sheet.specs.Listing.{hoursListing, listing, resultOf, hoursIn, arcsIn, Answers}
 use Rattle.sheet.specs.declared.SheetRead.{SheetRead}
 use Rattle.sheet.specs.declared.SheetRead.the-variants.{Sheet, Broken}
+use Rattle.sheet.proofs.Decimal.{decimal-some}
 use Rattle.sheet.proofs.Listing.{hours-length, hours-front, listing-length, listing-front}
 use Rattle.sheet.proofs.Theorems.{scan-sheet}
+
+-- An arc has at least four bytes.
+
+end-some : (e : LineEnd) → 0 < length (endBytes e)
+unfolding endBytes
+end-some feed = omega arith
+end-some returnFeed = omega arith
+
+line-long : (l : List ℕ) (e : LineEnd) (rest : List ℕ) → length l + 1 + length rest ≤ length (l ++ (endBytes e ++ rest))
+line-long l e rest = omega (arith, length-append l (endBytes e ++ rest), length-append (endBytes e) rest, end-some e)
+
+arcs-long : (arcs : List Arc) (ends : List LineEnd) → length ends ≡ length (map arcText arcs) → 4 * length arcs ≤ length (text (map arcText arcs) ends)
+unfolding text arcText
+arcs-long [] ends e = omega arith
+arcs-long (a ∷ arcs) [] e = absurd (omega arith)
+arcs-long (a ∷ arcs) (x ∷ ends) e =
+    omega (
+      arith,
+      arcs-long arcs ends (omega arith),
+      line-long (arcText a) x (text (map arcText arcs) ends),
+      length-append (decimal (a .0)) (space ∷ decimal (a .1)),
+      decimal-some (a .0),
+      decimal-some (a .1),
+    )
+
+lines-long
+    : (ls : List (List ℕ)) (arcs : List Arc) (ends : List LineEnd) → length ends ≡ length (ls ++ map arcText arcs)
+    → 4 * length arcs ≤ length (text (ls ++ map arcText arcs) ends)
+unfolding text
+lines-long [] arcs ends e = arcs-long arcs ends e
+lines-long (l ∷ ls) arcs [] e = absurd (omega arith)
+lines-long (l ∷ ls) arcs (x ∷ ends) e = omega (arith, lines-long ls arcs ends (omega arith), line-long l x (text (ls ++ map arcText arcs) ends))
+
+pub form-long : (s : List ℕ) (n : ℕ) (hours : List ℕ) (arcs : List Arc) → LineForm s n hours arcs → 4 * length arcs ≤ length s
+unfolding lines
+form-long s n hours arcs f =
+    let t = f .form .written in
+    omega (arith, lines-long (decimal n ∷ map decimal hours) arcs (t .ends) (t .each), ap length (t .written))
 
 abbrev isSheet : SheetRead → Bool
 isSheet (Sheet n k) = true
@@ -35,11 +76,14 @@ pub record SheetLists (s : List ℕ) (n count : ℕ) (times list : List ℕ) : T
   pub read-is : scan s ≡ sheet n hours arcs
   pub size : length arcs ≡ count
   pub hours-front : n ≤ 128 → take n times ≡ hours
+  pub few : count ≤ 4096 → 2 * count ≤ length list
   pub front : count ≤ 4096 → take (2 * count) list ≡ arcBytes arcs
 
--- what a read of a sheet leaves in a list for 128 jobs and in one for 4,096 arcs
+-- what a read of a sheet leaves in a list for 128 jobs and in one with room for 4,096 arcs, or for all that so many bytes may have
 module _ (s held-hours held : List ℕ) (r : SheetRead) (times list : List ℕ) (a : Answers (scan s) held-hours held r times list) where
-  pub sheet-lists : (n count : ℕ) → r ≡ Sheet n count → length held-hours ≡ 128 → length held ≡ 8192 → SheetLists s n count times list
+  pub sheet-lists
+      : (n count : ℕ) → r ≡ Sheet n count → length held-hours ≡ 128 → (8192 ≤ length held) ⊎ (length s ≤ 2 * length held)
+      → SheetLists s n count times list
   unfolding resultOf hoursIn arcsIn
   sheet-lists n count e room size = go (scan s) refl a
     where
@@ -51,13 +95,16 @@ module _ (s held-hours held : List ℕ) (r : SheetRead) (times list : List ℕ) 
           let jobs-are : m ≡ n = sym (ap jobs same) in
           let read : scan s ≡ sheet n hours arcs = is ∙ ap (λ k. sheet k hours arcs) jobs-are in
           let each : length hours ≡ n = scan-sheet s n hours arcs .0 read .jobs in
+          let fits : count ≤ 4096 → 2 * count ≤ length held =
+          λ few. ⊎-elim (λ (l : 8192 ≤ length held). omega arith) (λ l. omega (arith, form-long s n hours arcs (scan-sheet s n hours arcs .0 read))) size in
           record {
             hours = hours;
             arcs = arcs;
             read-is = read;
             size = sym long;
             hours-front = λ few. ap (take n) (b .hours-listed) ∙ ap (λ k. take k (hoursListing hours held-hours)) (sym each) ∙ hours-front hours held-hours (omega arith);
-            front = λ few. ap (λ k. take (2 * k) list) long ∙ ap (take (2 * length arcs)) (b .listed) ∙ listing-front arcs held (omega (arith, long, size));
+            few = λ few. omega (arith, fits few, ap length (b .listed), listing-length arcs held);
+            front = λ few. ap (λ k. take (2 * k) list) long ∙ ap (take (2 * length arcs)) (b .listed) ∙ listing-front arcs held (omega (arith, long, fits few));
           }
 
   pub broken-read : (p : ℕ) → r ≡ Broken p → scan s ≡ broken p (hoursIn (scan s)) (arcsIn (scan s))
@@ -73,3 +120,9 @@ module _ (s held-hours held : List ℕ) (r : SheetRead) (times list : List ℕ) 
 
   pub list-long : length list ≡ length held
   list-long = ap length (a .listed) ∙ listing-length (arcsIn (scan s)) held
+
+-- so many numbers are looked at as the list has
+pub looked-within
+    : (count looked room : ℕ) → (count ≤ 4096 → looked ≡ 2 * count) → (4096 < count → looked ≡ 0) → (count ≤ 4096 → 2 * count ≤ room) → looked ≤ room
+looked-within count looked room few many fits =
+    elim (decLt 4096 count) [ yes l ↦ omega (arith, many l) | no l ↦ omega (arith, few (omega arith), fits (omega arith)) ]

@@ -1,49 +1,14 @@
--- `analyse_sheet` meets its contract: the sheet's length decides 1, the read 2, and what was read all others.
+-- `analyse_sheet` meets its contract: the sheet's length decides 1, and which list it gets.
 use borrow.Author.Needs.{needs}
-use Prim.Native.Nat.{ℕ, _≤_}
-use mathlib.Core.Path.{_≡_, sym, ap, subst, refl, _∙_}
-use mathlib.Core.List.{List}
+use mathlib.Core.Path.{sym, subst, refl}
+use mathlib.Core.Logic.{inl, inr}
 use native.Mathlib.Omega.{arith}
-use lib.ListN.{length, take}
-use lib.Seq.{length-take-le}
-use Rattle.relation.specs.Arcs.{pairs}
-use Rattle.analysis.specs.Bounds.{longestSheet}
 use Rattle.analysis.specs.Outcome.{sheetOutcome}
 use Rattle.analysis.specs.Result.{rooms, Gives}
-use Rattle.analysis.proofs.Crossing.{gives-same, gives-refusal}
-use Rattle.analysis.proofs.Steps.{sheet-long, sheet-broken, sheet-read, pairs-bytes}
-use Rattle.analysis.proofs.SheetArcs.{SheetLists, sheet-lists, broken-read, hours-long, list-long}
+use Rattle.analysis.proofs.Crossing.{gives-refusal}
+use Rattle.analysis.proofs.Steps.{sheet-long}
 use Rattle.analysis.proofs.analyse_sheet.Statement.{statement}
 use Rattle.analysis.proofs.analyse_sheet.Tie as tie
-
--- the sheet, the areas, and what the read leaves in the lists
-module _ (c : tie.After-read-sheet) where
-  abbrev start : tie.Start
-  start = c .before .before .before .before .before .before .before
-
-  abbrev text : List ℕ
-  text = start .args .sheet .now
-
-  abbrev bytes : List ℕ
-  bytes = start .args .bytes .now
-
-  abbrev area : List ℕ
-  area = start .args .area .now
-
-  abbrev times : List ℕ
-  times = c .read-sheet .last .1 .0
-
-  abbrev list : List ℕ
-  list = c .read-sheet .last .1 .1 .0
-
-  short : length text ≤ longestSheet
-  short = c .before .before .before .if1 .left
-
-  times-length : length times ≡ 128
-  times-length = hours-long text _ _ (c .read-sheet .result) times list (c .read-sheet .ensures)
-
-  list-length : length list ≡ 8192
-  list-length = list-long text _ _ (c .read-sheet .result) times list (c .read-sheet .ensures)
 
 refused-requires : tie.Need-refused-requires
 refused-requires c κs = search needs
@@ -57,48 +22,11 @@ returns c =
     subst (λ a. Gives (sheetOutcome (rooms b ar) text) b ar a b ar) (sym (c .refused .ensures))
     (gives-refusal _ (sheetOutcome (rooms b ar) text) b ar 1 0 0 0 0 (sheet-long (rooms b ar) text (c .before .if1 .taken)) refl)
 
-slice-aggregate-read-sheet : tie.Need-slice-aggregate-read-sheet
-slice-aggregate-read-sheet c = search needs
+slice-aggregate-of-sheet : tie.Need-slice-aggregate-of-sheet
+slice-aggregate-of-sheet c = search needs
 
-slice-aggregate-read-sheet-2 : tie.Need-slice-aggregate-read-sheet-2
-slice-aggregate-read-sheet-2 c = search needs
-
-read-sheet-requires : tie.Need-read-sheet-requires
-read-sheet-requires c κs = search needs
-
-enum-known-read : tie.Need-enum-known-read
-enum-known-read c = search needs
-
-timed-requires : tie.Need-timed-requires
-timed-requires c κs = search needs
-
-array-share-prefix-hours : tie.Need-array-share-prefix-hours
-array-share-prefix-hours c = search needs
-
-slice-aggregate-of-count : tie.Need-slice-aggregate-of-count
-slice-aggregate-of-count c =
-    let r = c .before .before .before .before .before .before .before in
-    sym (length-take-le (c .before .timed .result) (times r) (omega (arith, times-length r, c .before .timed .ensures .0)))
-
-looked-at-requires : tie.Need-looked-at-requires
-looked-at-requires c κs = search needs
-
-array-share-prefix-list : tie.Need-array-share-prefix-list
-array-share-prefix-list c = search needs
-
-slice-aggregate-of-count-2 : tie.Need-slice-aggregate-of-count-2
-slice-aggregate-of-count-2 c =
-    let r = c .before .before .before .before .before .before .before .before .before in
-    sym (length-take-le (c .before .looked-at .result) (list r) (omega (arith, list-length r, c .before .looked-at .ensures .0)))
-
-of-count-requires : tie.Need-of-count-requires
-of-count-requires c κs = search needs
-
-enum-known-read-2 : tie.Need-enum-known-read-2
-enum-known-read-2 c = search needs
-
-refused-requires-2 : tie.Need-refused-requires-2
-refused-requires-2 c κs = search needs
+of-sheet-requires : tie.Need-of-sheet-requires
+of-sheet-requires c κs = let t = c .before .before .before in (t .before .if1 .left, inr (t .if2 .taken))
 
 same-length : tie.Need-same-length
 same-length c = search needs
@@ -107,23 +35,22 @@ same-length-2 : tie.Need-same-length-2
 same-length-2 c = search needs
 
 returns-2 : tie.Need-returns-2
-returns-2 c =
-    let told = c .before .before .before .before .before .before .before .before .before .before .before in
-    let r = told .before .before .before .before .before in
-    let x = sheet-lists (text r) _ _ (r .read-sheet .result) (times r) (list r) (r .read-sheet .ensures) _ _ (told .before .read .given .1) refl refl in
-    gives-same (sym (sheet-read (rooms (bytes r) (area r)) (text r) _ (x .hours) (x .arcs) (short r) (x .read-is)))
-    (c .before .before .before .before .of-count .ensures (x .hours) (x .arcs)
-    (λ few. ap (λ k. take k (times r)) (c .before .before .before .before .before .before .before .before .before .before .timed .ensures .1 few) ∙ x .hours-front few)
-    (x .size)
-    (λ few. ap (λ k. pairs (take k (list r))) (c .before .before .before .before .before .before .before .before .looked-at .ensures .1 few) ∙ ap pairs (x .front few) ∙ pairs-bytes (x .arcs)))
+returns-2 c = search needs
+
+slice-aggregate-of-sheet-2 : tie.Need-slice-aggregate-of-sheet-2
+slice-aggregate-of-sheet-2 c = search needs
+
+of-sheet-requires-2 : tie.Need-of-sheet-requires-2
+of-sheet-requires-2 c κs = (c .before .before .before .before .if1 .left, inl (omega arith))
+
+same-length-3 : tie.Need-same-length-3
+same-length-3 c = search needs
+
+same-length-4 : tie.Need-same-length-4
+same-length-4 c = search needs
 
 returns-3 : tie.Need-returns-3
-returns-3 c =
-    let r = c .before .before .before .before .before .before in
-    let e = broken-read (text r) _ _ (r .read-sheet .result) (times r) (list r) (r .read-sheet .ensures) _ (c .before .before .read2 .given .1) in
-    subst (λ a. Gives (sheetOutcome (rooms (bytes r) (area r)) (text r)) (bytes r) (area r) a (bytes r) (area r)) (sym (c .refused2 .ensures))
-    (gives-refusal _ (sheetOutcome (rooms (bytes r) (area r)) (text r)) (bytes r) (area r) 2 _ 0 0 0
-    (sheet-broken (rooms (bytes r) (area r)) (text r) _ (short r) e) refl)
+returns-3 c = search needs
 
 pub analyse-sheet-spec : {M : Type 1} → statement M
 analyse-sheet-spec =
@@ -131,20 +58,13 @@ analyse-sheet-spec =
     (tie.spec
     refused-requires
     returns
-    slice-aggregate-read-sheet
-    slice-aggregate-read-sheet-2
-    read-sheet-requires
-    enum-known-read
-    timed-requires
-    array-share-prefix-hours
-    slice-aggregate-of-count
-    looked-at-requires
-    array-share-prefix-list
-    slice-aggregate-of-count-2
-    of-count-requires
-    enum-known-read-2
-    refused-requires-2
+    slice-aggregate-of-sheet
+    of-sheet-requires
     same-length
     same-length-2
     returns-2
+    slice-aggregate-of-sheet-2
+    of-sheet-requires-2
+    same-length-3
+    same-length-4
     returns-3)
