@@ -39,6 +39,19 @@ fn entries(word: &[u8], list: &[u8], count: usize) {
     io::write_all(STDOUT_FILENO, b"\n");
 }
 
+fn hours_entry(h: u16) {
+    number(h as u64);
+}
+
+// A line of the hours of each job.
+fn hours_entries(hours: &[u16; 128]) {
+    io::write_all(STDOUT_FILENO, b"hours");
+    for i in 0..128 {
+        hours_entry(hours[i]);
+    }
+    io::write_all(STDOUT_FILENO, b"\n");
+}
+
 // The bytes of so many arcs; more than an area holds are not printed.
 fn arc_bytes(arcs: usize) -> usize {
     if 4096 < arcs {
@@ -57,12 +70,13 @@ fn answer(told: [usize; 5]) {
     io::write_all(STDOUT_FILENO, b"\n");
 }
 
-// What a record gives: the answer's number and places, the reduced orders as they are written, and both sequences whole.
+// What a record gives: the answer's number and places, the reduced orders as they are written, both sequences and the hours whole.
 fn print_record(record: &[u8]) {
     let mut area = [0u8; 8192];
     let read = analysis::analyse_record(record, &mut area);
     let forward = read.forward;
     let reverse = read.reverse;
+    let hours = read.hours;
     let verdict = read.verdict;
     let told = analysis::answer::numbers(verdict);
     let arcs = arc_bytes(told[2]);
@@ -70,6 +84,7 @@ fn print_record(record: &[u8]) {
     entries(b"arcs", &area, arcs);
     entries(b"forward", &forward, 128);
     entries(b"reverse", &reverse, 128);
+    hours_entries(&hours);
 }
 
 // A record's name begins with r.

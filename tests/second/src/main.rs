@@ -6,8 +6,8 @@
 use second::{cases, printed, read_record, LONGEST_SHEET, MOST_ORDERS};
 use std::io::{self, Read, Write};
 
-/// The answer's number and places, the reduced orders as written and both
-/// sequences whole, each a line.
+/// The answer's number and places, the reduced orders as written, both sequences
+/// and the hours whole, each a line.
 fn printed_record(record: &[u8]) -> String {
     let outcome = read_record(record, 2 * MOST_ORDERS);
     let line = |word: &str, numbers: Vec<u64>| {
@@ -21,6 +21,7 @@ fn printed_record(record: &[u8]) -> String {
     ) + &line("arcs", wide(&outcome.reduced))
         + &line("forward", wide(&outcome.forward))
         + &line("reverse", wide(&outcome.reverse))
+        + &line("hours", outcome.hours.map(u64::from).to_vec())
 }
 
 fn main() -> io::Result<()> {
