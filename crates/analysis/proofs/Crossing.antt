@@ -75,13 +75,16 @@ gives-crossed rs n hours r bytes area bare = go (firstN n r) refl
     go : (o : Option Four) → firstN n r ≡ o → Gives (decomposed rs n hours r) bytes area (crossedBy (firstN n r)) bytes area
     go (some q) e =
         subst (λ o. Gives (decomposed rs n hours r) bytes area (crossedBy o) bytes area) (sym e)
-        (gives-refusal (verdict.Crossed (q .0) (q .1) (q .2) (q .3)) (decomposed rs n hours r) bytes area 8 (q .0) (q .1) (q .2) (q .3) (by-n rs n hours r q e) refl)
+        (gives-refusal (verdict.Crossed (q .0) (q .1) (q .2) (q .3)) (decomposed rs n hours r) bytes area 8 (q .0) (q .1) (q .2) (q .3)
+        (by-n rs n hours r q e) refl)
     go none e =
         subst (λ o. Gives (decomposed rs n hours r) bytes area (crossedBy o) bytes area) (sym e)
         (gives-refusal (verdict.Crossed 0 0 0 0) (decomposed rs n hours r) bytes area 8 0 0 0 0 (by-none rs n hours r e bare) refl)
 
 -- an order that a tree means
-pub tree-outcome : (rs : Rooms) (n : ℕ) (hours : List ℕ) (r : Rel) (t : Tree) → Strict n r → treeOf n r ≡ some t → decomposed rs n hours r ≡ fitted rs (accept n hours r t)
+pub tree-outcome
+    : (rs : Rooms) (n : ℕ) (hours : List ℕ) (r : Rel) (t : Tree) → Strict n r → treeOf n r ≡ some t
+    → decomposed rs n hours r ≡ fitted rs (accept n hours r t)
 tree-outcome rs n hours r t strict e =
     decomposed-is rs n hours r
     ∙ ap₂ (afterN rs n hours r) (first-n-none n r .1 (λ h. tree-has-no-n n r (t, tree-of-sound n r t strict e .0) h)) e

@@ -102,7 +102,11 @@ module _ (s held-hours held : List ℕ) (r : SheetRead) (times list : List ℕ) 
             arcs = arcs;
             read-is = read;
             size = sym long;
-            hours-front = λ few. ap (take n) (b .hours-listed) ∙ ap (λ k. take k (hoursListing hours held-hours)) (sym each) ∙ hours-front hours held-hours (omega arith);
+            hours-front =
+                λ few.
+                ap (take n) (b .hours-listed)
+                ∙ ap (λ k. take k (hoursListing hours held-hours)) (sym each)
+                ∙ hours-front hours held-hours (omega arith);
             few = λ few. omega (arith, fits few, ap length (b .listed), listing-length arcs held);
             front = λ few. ap (λ k. take (2 * k) list) long ∙ ap (take (2 * length arcs)) (b .listed) ∙ listing-front arcs held (omega (arith, long, fits few));
           }

@@ -125,7 +125,8 @@ module _ (n : ℕ) (few : n ≤ 128) (hours : List ℕ) (r : Rel) (strict : Stri
   pub gives-10 : w .count ≤ length bytes → length area < 2 * count → Gives whole bytes area (refusal verdict.ArcRoom) bytes area
   gives-10 l = gives-short n hours r t (w .count) (layout n hours t) red same count counts bytes area whole (fitting l)
 
-  pub gives-0 : w .count ≤ length bytes → 2 * count ≤ length area → (all bytes′ area′ : List ℕ) → all ≡ padded hours → bytes′ ≡ overlay (take (w .count) (w .bytes)) bytes
+  pub gives-0 : w .count ≤ length bytes → 2 * count ≤ length area → (all bytes′ area′ : List ℕ) → all ≡ padded hours
+      → bytes′ ≡ overlay (take (w .count) (w .bytes)) bytes
       → area′ ≡ overlay (arcBytes (pairsOf n (holds red))) area
       → Gives whole bytes area
       (record { verdict = verdict.Accepted (w .count) count (w .groups); forward = w .forward; reverse = w .reverse; hours = all }) bytes′ area′

@@ -110,7 +110,8 @@ unfolding readBack
 record-told room bytes (misspelt h) = one-place 11 0 (omega arith) (omega arith)
 record-told room bytes (broad r l) = one-place 10 0 (omega arith) (omega arith)
 record-told room bytes (read {n = n} {t = t} {hours = hours} r l) =
-    rw (r .spelt) at (counts n hours t (precedes t) (r .most) (r .spans) (tree-is-strict n (precedes t) t record { spans = r .spans; agrees = λ u v l k. refl }))
+    rw (r .spelt) at (counts n hours t (precedes t) (r .most) (r .spans)
+    (tree-is-strict n (precedes t) t record { spans = r .spans; agrees = λ u v l k. refl }))
 
 pub record-narrow : (room : ℕ) (bytes : List ℕ) → AllBelow 256 bytes → Narrow (recordOutcome room bytes .verdict)
 record-narrow room bytes below = record-told room bytes (record-fate room bytes below)

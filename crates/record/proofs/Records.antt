@@ -180,7 +180,9 @@ module _ (bytes : List ℕ) where
   pub decode-none : AllBelow 256 bytes → (decode bytes ≡ none) ↔ ((n : ℕ) (t : Tree) (hours : List ℕ) → IsRecord bytes n t hours → ⊥)
   decode-none b = (
     λ e n t hours r. found-clash (record-decodes n t hours r) e,
-    λ h. ⊎-elim (λ f. absurd (h (f .0 .0) (f .0 .1) (f .0 .2) (layout-decode bytes (f .0 .0) (f .0 .1) (f .0 .2) b (f .1)))) (λ e. e) (found-or-none (decode bytes)),
+    λ h.
+        ⊎-elim (λ f. absurd (h (f .0 .0) (f .0 .1) (f .0 .2) (layout-decode bytes (f .0 .0) (f .0 .1) (f .0 .2) b (f .1))))
+        (λ e. e) (found-or-none (decode bytes)),
   )
 
   pub layout-injective

@@ -8,7 +8,8 @@ use lib.ListN.{length, take, drop, length-append, length-drop}
 use lib.Seq.{take-all, drop-drop}
 use Rattle.poset.specs.Order.{Arc}
 use Rattle.sheet.specs.Text.{mostDigits, hoursDigits, lineEndings}
-use Rattle.sheet.specs.Scan.{countField, hoursField, Read, broken, most, hoursAhead, arcsAhead, fieldOf, endings, afterHours, ended, whole, scanFrom, scan}
+use Rattle.sheet.specs.Scan.{countField, hoursField, Read, broken, most, hoursAhead, arcsAhead, fieldOf}
+use Rattle.sheet.specs.Scan.{endings, afterHours, ended, whole, scanFrom, scan}
 use Rattle.sheet.specs.Reading.{ReadsNumber, atLine}
 use Rattle.sheet.specs.Listing.{hoursListing, AddsHours, resultOf, hoursIn, arcsIn, Answers, ArcsAnswer, atHours, ReadsHours}
 use Rattle.sheet.specs.declared.line.Part.the-variants as part

@@ -48,7 +48,8 @@ module _ (p : Packing) (width field : ℕ) (few : p .have + width < 64) (fits : 
   kept : p .value * 2 ^ width % 2 ^ 64 ≡ p .value % 2 ^ (64 - width) * 2 ^ width
   kept =
       let e : 64 ≡ 64 - width + width = omega arith in
-      let none : p .value * 2 ^ width % 2 ^ width ≡ 0 = ap (λ x. x % 2 ^ width) (sym (add-zero (p .value * 2 ^ width))) ∙ low (p .value) width (pow-pos width) in
+      let none : p .value * 2 ^ width % 2 ^ width ≡ 0 =
+      ap (λ x. x % 2 ^ width) (sym (add-zero (p .value * 2 ^ width))) ∙ low (p .value) width (pow-pos width) in
       ap (λ k. p .value * 2 ^ width % 2 ^ k) e
       ∙ mod-pow-add (p .value * 2 ^ width) (64 - width) width
       ∙ ap₂ (λ x y. x % 2 ^ (64 - width) * 2 ^ width + y) (shl-shr (p .value) width) none

@@ -113,9 +113,11 @@ returns c =
     let x = lists told in
     gives-same (sym (sheet-read (rooms (bytes r) (area r)) (text r) _ (x .hours) (x .arcs) (short r) (x .read-is)))
     (c .before .before .before .before .of-count .ensures (x .hours) (x .arcs)
-    (λ few. ap (λ k. take k (times r)) (c .before .before .before .before .before .before .before .before .before .before .hours-looked-at .ensures .1 few) ∙ x .hours-front few)
+    (λ few. ap (λ k. take k (times r)) (c .before .before .before .before .before .before .before .before .before .before .hours-looked-at .ensures .1 few)
+    ∙ x .hours-front few)
     (x .size)
-    (λ few. ap (λ k. pairs (take k (list r))) (c .before .before .before .before .before .before .before .before .looked-at .ensures .1 few) ∙ ap pairs (x .front few) ∙ pairs-bytes (x .arcs)))
+    (λ few. ap (λ k. pairs (take k (list r))) (c .before .before .before .before .before .before .before .before .looked-at .ensures .1 few)
+    ∙ ap pairs (x .front few) ∙ pairs-bytes (x .arcs)))
 
 same-length-4 : tie.Need-same-length-4
 same-length-4 c = search needs

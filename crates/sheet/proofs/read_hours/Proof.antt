@@ -102,7 +102,8 @@ returns : tie.Need-returns Inv-loop μ-loop
 returns c =
     let f = c .before in
     let l = f .before .before .before .before .before in
-    timing-broken (l .loop .inv) (f .before .before .before .before .loop-test .taken) (rest-of (l .before .before .before .args .s .now) (l .loop .at)) (fault f)
+    timing-broken (l .loop .inv) (f .before .before .before .before .loop-test .taken)
+    (rest-of (l .before .before .before .args .s .now) (l .loop .at)) (fault f)
 
 same-length-2 : tie.Need-same-length-2 Inv-loop μ-loop
 same-length-2 c = timing-length (c .before .loop .inv)

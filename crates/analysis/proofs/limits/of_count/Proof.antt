@@ -18,7 +18,8 @@ returns c =
     let ar = s .args .area .now in
     λ hours arcs times size all.
     subst (λ a. Gives (arcOutcome (rooms b ar) (s .args .n) hours arcs) b ar a b ar) (sym (c .refused .ensures))
-    (gives-refusal _ (arcOutcome (rooms b ar) (s .args .n) hours arcs) b ar 3 0 0 0 0 (count-none (rooms b ar) (s .args .n) hours arcs (c .before .if1 .taken)) refl)
+    (gives-refusal _ (arcOutcome (rooms b ar) (s .args .n) hours arcs) b ar 3 0 0 0 0
+    (count-none (rooms b ar) (s .args .n) hours arcs (c .before .if1 .taken)) refl)
 
 refused-requires-2 : tie.Need-refused-requires-2
 refused-requires-2 c κs = search needs
@@ -30,7 +31,8 @@ returns-2 c =
     let ar = s .args .area .now in
     λ hours arcs times size all.
     subst (λ a. Gives (arcOutcome (rooms b ar) (s .args .n) hours arcs) b ar a b ar) (sym (c .refused2 .ensures))
-    (gives-refusal _ (arcOutcome (rooms b ar) (s .args .n) hours arcs) b ar 3 0 0 0 0 (count-above (rooms b ar) (s .args .n) hours arcs (c .before .if2 .taken)) refl)
+    (gives-refusal _ (arcOutcome (rooms b ar) (s .args .n) hours arcs) b ar 3 0 0 0 0
+    (count-above (rooms b ar) (s .args .n) hours arcs (c .before .if2 .taken)) refl)
 
 refused-requires-3 : tie.Need-refused-requires-3
 refused-requires-3 c κs = search needs

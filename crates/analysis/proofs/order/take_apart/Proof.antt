@@ -100,8 +100,19 @@ padded-requires c κs =
 
 write-record-requires : tie.Need-write-record-requires
 write-record-requires c κs =
-    let s = c .before .before .before .before .before .before .before in
-    (s .pre .0, (s .pre .1 .0, (s .pre .1 .1 .0, (c .before .before .before .transposed .ensures, subst (AllBelow (2 ^ hoursBits)) (sym (c .before .before .padded .ensures)) (padded-below _ (s .pre .1 .1 .1 .1))))))
+    let s = c .before .before .before .before .before .before .before in (
+      s .pre .0,
+      (
+        s .pre .1 .0,
+        (
+          s .pre .1 .1 .0,
+          (
+            c .before .before .before .transposed .ensures,
+            subst (AllBelow (2 ^ hoursBits)) (sym (c .before .before .padded .ensures)) (padded-below _ (s .pre .1 .1 .1 .1)),
+          ),
+        ),
+      ),
+    )
 
 crossed-requires : tie.Need-crossed-requires
 crossed-requires c κs = search needs

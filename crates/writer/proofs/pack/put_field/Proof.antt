@@ -70,7 +70,9 @@ moved-requires : tie.Need-moved-requires
 moved-requires c κs = let k = c .before in omega (arith, leaf-taken k, leaf-room (k .before))
 
 moved-requires-2 : tie.Need-moved-requires-2
-moved-requires-2 c κs = let k = c .before .before .before in omega (arith, leaf-taken k, leaf-room (k .before), c .before .moved .ensures .place, c .before .moved .ensures .fewer)
+moved-requires-2 c κs =
+    let k = c .before .before .before in
+    omega (arith, leaf-taken k, leaf-room (k .before), c .before .moved .ensures .place, c .before .moved .ensures .fewer)
 
 moved-if-full-requires : tie.Need-moved-if-full-requires
 moved-if-full-requires c κs =
@@ -106,7 +108,8 @@ returns c =
     subst (λ l. Puts l (s .args .bytes .now) (s .args .p) (c .moved-if-full .last .0) (c .moved-if-full .result))
     (ap (λ h. bits leafBits (s .args .field * 4096 + h)) (w .wide .ensures)
     ∙ leaf-bits (s .args .hours .now) (s .args .field) (w .before .before .if1 .taken) (hours-small w))
-    (puts-after (k .taken .ensures) (c .before .before .before .before .moved .ensures) (moves-both (c .before .before .moved2 .ensures) (c .moved-if-full .ensures)))
+    (puts-after (k .taken .ensures) (c .before .before .before .before .moved .ensures)
+    (moves-both (c .before .before .moved2 .ensures) (c .moved-if-full .ensures)))
 
 returns-2 : tie.Need-returns-2
 returns-2 c =
