@@ -12,7 +12,6 @@ use lib.ListN.{length, getD, drop, replicate, drop-of-length-le}
 use lib.Seq.{drop-cons, take-all}
 use Rattle.poset.specs.Areas.{overlay, padded}
 use Rattle.poset.specs.Tree.{Tree}
-use Rattle.poset.proofs.Laws.{false-unless, ltb-true}
 use Rattle.relation.specs.Arcs.{placeFrom, place}
 use Rattle.record.specs.Bits.{AllBelow, bits, bytesOf}
 use Rattle.record.specs.Layout.{hoursBits, mostHours, treeBits, layout}
@@ -66,10 +65,6 @@ module _ (p : ℕ → Bool) (xs : List ℕ) where
     passed-end l = sym (c .same ∙ ap (placeFrom i p) (drop-of-length-le xs l))
 
 -- hours that are not too large
-
-pub not-large : (h : ℕ) → h ≤ mostHours → ltb mostHours h ≡ false
-not-large h l = false-unless (ltb mostHours h) (λ e. omega (arith, ltb-true mostHours h e))
-
 pub large-below : (hours : List ℕ) → place (ltb mostHours) hours ≡ none → AllBelow (2 ^ hoursBits) hours
 large-below hours e h m =
     elim (decLt mostHours h) [ yes l ↦ absurd (place-none (ltb mostHours) _ (ltb-is mostHours) hours e h m l) | no l ↦ omega arith ]

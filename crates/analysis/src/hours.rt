@@ -2,18 +2,43 @@
 use relation::Found;
 ghost use Prim.Native.Nat.{_≤_};
 ghost use mathlib.Core.Path.{_≡_};
+ghost use mathlib.Core.Option.{none};
+ghost use mathlib.Core.Bool.{false};
 ghost use lib.Dec.{ltb};
 ghost use lib.ListN.{length};
 ghost use Rattle.poset.specs.Areas.{padded};
 ghost use Rattle.relation.specs.Arcs.{place, found};
 ghost use Rattle.record.specs.Layout.{mostHours};
 
-// The first job with more hours than a job may have.
+// More hours than a job may have.
+fn large(hours: u16) -> bool
+    ensures { λ r. ⌜ r ≡ ltb mostHours hours ⌝ }
+{
+    record::MOST_HOURS < hours
+}
+
+// Whether some job has more. A loop with no exit in it, for several jobs at a time.
+fn some_large(hours: &[u16]) -> bool
+    ensures { λ r. ⌜ (r ≡ false → none ≡ place (ltb mostHours) (now (hours .entry))) ⌝ }
+{
+    let mut some = false;
+    for i in 0..hours.len() {
+        if large(hours[i]) {
+            some = true;
+        }
+    }
+    some
+}
+
+// The first job with more.
 pub fn first_large(hours: &[u16]) -> Found
     ensures { λ r. ⌜ found r ≡ place (ltb mostHours) (now (hours .entry)) ⌝ }
 {
+    if !some_large(hours) {
+        return Found::Nothing;
+    }
     for i in 0..hours.len() {
-        if record::MOST_HOURS < hours[i] {
+        if large(hours[i]) {
             return Found::At(i);
         }
     }

@@ -27,12 +27,16 @@ two-fields {bs} {at} j k x y f g =
     let place : at + j ≡ at + length (bits j x) = omega (arith, length-bits j x) in
     at-join (bits j x) (bits k y) (f .stands) (subst (λ (i : ℕ). At bs i (bits k y)) place (g .stands))
 
--- the hours of a leaf: 8 bits, then 4
-pub hours-field : (bs : List ℕ) (at x y : ℕ) → FieldAt bs at 8 x → FieldAt bs (at + 8) 4 y → FieldAt bs at hoursBits (x * 16 + y)
+-- the hours of a leaf: 8 bits, then the others
+pub hours-field
+    : (bs : List ℕ) (at x y : ℕ) → FieldAt bs at 8 x → FieldAt bs (at + 8) (hoursBits - 8) y
+    → FieldAt bs at hoursBits (x * 2 ^ (hoursBits - 8) % 2 ^ 64 + y)
 hours-field bs at x y f g =
-    let x-small : x < 256 = f .small in
-    let y-small : y < 16 = g .small in
-    record { stands = subst (At bs at) (sym (bits-append 8 4 x y (g .small))) (two-fields 8 4 x y f g); small = omega arith }
+    let others = hoursBits - 8 in
+    let x-small : x < 2 ^ 8 = f .small in
+    let y-small : y < 2 ^ others = g .small in
+    let same : x * 2 ^ others + y ≡ x * 2 ^ others % 2 ^ 64 + y = omega arith in
+    record { stands = subst (At bs at) (sym (bits-append 8 others x y y-small) ∙ ap (bits hoursBits) same) (two-fields 8 others x y f g); small = omega arith }
 
 module _ (bs : List ℕ) (at : ℕ) where
   none-at : ((t : Tree) → Small (leaves t) → (hours : List ℕ) → AllBelow (2 ^ hoursBits) hours → At bs at (treeBits hours t) → ⊥)

@@ -35,14 +35,14 @@ pub fn field(bytes: &[u8], at: usize, width: usize) -> usize
     (pair >> (16 - end)) % (1usize << width)
 }
 
-// The hours in the 12 bits from `at` on.
+// The hours in the bits from `at` on: 8 bits, then the others.
 fn hours_at(bytes: &[u8], at: usize) -> u16
     requires { ⌜ (at + hoursBits ≤ 8 * length (now bytes)) × (length (now bytes) ≤ recordRoom) ⌝ }
     ensures { λ r. ⌜ FieldAt (bitsOf (now (bytes .entry))) at hoursBits r ⌝ }
 {
     let high = field(bytes, at, 8);
-    let low = field(bytes, at + 8, 4);
-    (high * 16 + low) as u16
+    let low = field(bytes, at + 8, record::HOURS_BITS - 8);
+    ((high << (record::HOURS_BITS - 8)) + low) as u16
 }
 
 // The node at `at`. No tree has fewer bits than a leaf.

@@ -24,7 +24,7 @@ hoursBits = 12
 abbrev pub leafBits : ℕ
 leafBits = 8 + hoursBits
 
--- the most hours that a job may have
+-- the most hours that a job may have (Document 02, A.2: 4,095)
 abbrev pub mostHours : ℕ
 mostHours = 2 ^ hoursBits - 1
 

@@ -3,8 +3,11 @@
 // No record has more bytes.
 pub const RECORD_ROOM: usize = 464;
 
-// The bits of a leaf: a 0, 7 bits for its job and 12 for its hours.
-pub const LEAF_BITS: usize = 20;
+// The bits of a job's hours.
+pub const HOURS_BITS: usize = 12;
+
+// The bits of a leaf: a 0, 7 bits for its job, and its hours.
+pub const LEAF_BITS: usize = 8 + HOURS_BITS;
 
 // The most hours that a job may have.
-pub const MOST_HOURS: u16 = 4095;
+pub const MOST_HOURS: u16 = (1 << HOURS_BITS) - 1;

@@ -15,7 +15,7 @@ use Rattle.record.proofs.Fields.{length-bits, bits-mod, bits-append, bits-cons,
 use Rattle.record.proofs.Bytes.{Filled, bits-zero, bitsOf-below, bytes-filled, filled-unique}
 use Rattle.record.proofs.Below.{below-nil, below-cons, below-append}
 use Rattle.writer.specs.declared.pack.Packing.{Packing}
-use Rattle.writer.specs.Packing.{Holds, Takes, Moves, Puts, Ends, fieldBits}
+use Rattle.writer.specs.Packing.{Holds, Ready, Takes, Moves, Puts, Ends, fieldBits}
 use Rattle.writer.proofs.Stores.{stored, blank-next, whole-list}
 
 pub bitsOf-append : (xs ys : List ℕ) → bitsOf (xs ++ ys) ≡ bitsOf xs ++ bitsOf ys
@@ -88,6 +88,19 @@ takes-held {these} {bytes} {p} {q} t bs h =
       these = subst (λ k. bs ++ these ≡ bitsOf (take k bytes) ++ bits (q .have) (q .value)) (sym (t .place)) same;
     }
 
+pub takes-both : {these those : List ℕ} {p q r : Packing} → Takes these p q → Takes those q r → Takes (these ++ those) p r
+takes-both {these} {those} {p} {q} {r} t u = record {
+  place = u .place ∙ t .place;
+  more = omega (arith, t .more, u .more, length-append these those);
+  bits-are = u .bits-are ∙ ap (λ l. l ++ those) (t .bits-are) ∙ append-assoc (bits (p .have) (p .value)) these those;
+}
+
+-- where there is room for k bits more, there is for the bytes that they complete
+pub takes-room
+    : {k : ℕ} {these : List ℕ} {p q : Packing} → length these ≡ k → Ready p (length these) → Takes these p q
+    → (k ≤ q .have) × (q .have < 8 + k) × (8 * q .at + q .have ≤ 8 * recordRoom)
+takes-room e r t = omega (arith, r .room, r .few, t .place, t .more)
+
 -- eight bits in hand as a byte
 
 module _ (bytes : List ℕ) (p : Packing) (many : 8 ≤ p .have) (room : p .at < recordRoom) where
@@ -155,9 +168,6 @@ module _ (hours : List ℕ) (x : ℕ) where
   pub leaf-is : x < 128 → fieldBits hours x ≡ bits 8 x ++ bits hoursBits (hoursOf hours x)
   unfolding fieldBits
   leaf-is h = rw (lt-true x 128 h, fieldBits)
-
-  pub leaf-bits : x < 128 → hoursOf hours x < 2 ^ hoursBits → bits leafBits (x * 2 ^ hoursBits + hoursOf hours x) ≡ fieldBits hours x
-  leaf-bits h l = bits-append 8 hoursBits x (hoursOf hours x) l ∙ sym (leaf-is h)
 
   pub group-is : 128 ≤ x → fieldBits hours x ≡ 1 ∷ bits 8 (x % 256)
   unfolding fieldBits

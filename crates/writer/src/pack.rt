@@ -64,7 +64,8 @@ fn put_field(
     ensures { λ r. ⌜ Puts (fieldBits (now (hours .entry)) field) (now (bytes .entry)) p (now (bytes .exit)) r ⌝ }
 {
     if field < 128 {
-        let leaf = taken(p, record::LEAF_BITS, field * 4096 + wide(hours[field]));
+        let job = taken(p, 8, field);
+        let leaf = taken(job, record::HOURS_BITS, wide(hours[field]));
         let one = moved(bytes, leaf);
         let two = moved(bytes, one);
         moved_if_full(bytes, two)

@@ -2,54 +2,55 @@
 use borrow.Author.Needs.{needs}
 use native.Mathlib.Omega.{arith}
 use Prim.Native.Nat.{_+_, _*_, _^_, _≤_, _<_}
-use mathlib.Core.Path.{_≡_, ap, sym, subst, _∙_}
+use mathlib.Core.Path.{ap, sym, subst, _∙_}
+use mathlib.Core.List.{_++_}
 use Rattle.record.specs.Bits.{bits}
-use Rattle.record.specs.Layout.{hoursBits, leafBits, hoursOf, recordRoom}
+use Rattle.record.specs.Layout.{hoursBits, leafBits, recordRoom}
 use Rattle.record.proofs.Fields.{length-bits}
 use Rattle.record.proofs.Entries.{entry-below}
-use Rattle.writer.specs.Packing.{Puts}
-use Rattle.writer.proofs.Packs.{leaf-bits, group-bits, leaf-length, group-length, puts-after, moves-both}
+use Rattle.writer.specs.Packing.{Takes, fieldBits}
+use Rattle.writer.proofs.Packs.{leaf-is, group-bits, leaf-length, group-length, takes-both, takes-room, puts-after, moves-both}
 use Rattle.writer.proofs.pack.put_field.Statement.{statement}
 use Rattle.writer.proofs.pack.put_field.Tie as tie
 
 -- a leaf
+module _ (c : tie.After-taken2) where
+  abbrev leaf-case : tie.Then1
+  leaf-case = c .before .before .before .before
 
-module _ (c : tie.After-wide) where
   abbrev leaf-start : tie.Start
-  leaf-start = c .before .before .before
+  leaf-start = leaf-case .before
 
-  hours-small : hoursOf (leaf-start .args .hours .now) (leaf-start .args .field) < 2 ^ hoursBits
-  hours-small = entry-below (leaf-start .args .hours .now) (leaf-start .args .field) (2 ^ hoursBits) (omega arith) (leaf-start .pre .1)
+  leaf-takes : Takes (fieldBits (leaf-start .args .hours .now) (leaf-start .args .field)) (leaf-start .args .p) (c .taken2 .result)
+  leaf-takes =
+      let s = leaf-start .args in
+      subst (λ l. Takes l (s .p) (c .taken2 .result))
+      (ap (λ h. bits 8 (s .field) ++ bits hoursBits h) (c .before .wide .ensures) ∙ sym (leaf-is (s .hours .now) (s .field) (leaf-case .if1 .taken)))
+      (takes-both (c .before .before .before .taken .ensures) (c .taken2 .ensures))
 
-  leaf-few : (leaf-start .args .p .have + leafBits < 64) × (leaf-start .args .field * 4096 + c .wide .result < 2 ^ leafBits)
-  leaf-few = (omega (arith, leaf-start .pre .0 .few), omega (arith, hours-small, c .wide .ensures, c .before .before .if1 .taken))
-
-  leaf-room : (leaf-start .args .p .have < 8) × (8 * leaf-start .args .p .at + leaf-start .args .p .have + leafBits ≤ 8 * recordRoom)
+  leaf-room
+      : (leafBits ≤ c .taken2 .result .have) × (c .taken2 .result .have < 8 + leafBits)
+      × (8 * c .taken2 .result .at + c .taken2 .result .have ≤ 8 * recordRoom)
   leaf-room =
-      let s = leaf-start in
-      (s .pre .0 .few, omega (arith, s .pre .0 .room, leaf-length (s .args .hours .now) (s .args .field) (c .before .before .if1 .taken)))
-
-leaf-taken
-    : (c : tie.After-taken)
-    → let p = c .before .before .before .before .args .p in
-    (c .taken .result .have ≡ p .have + leafBits) × (c .taken .result .at ≡ p .at)
-leaf-taken c = (c .taken .ensures .more ∙ ap (λ k. c .before .before .before .before .args .p .have + k) (length-bits leafBits _), c .taken .ensures .place)
+      let s = leaf-start in takes-room (leaf-length (s .args .hours .now) (s .args .field) (leaf-case .if1 .taken)) (s .pre .0) leaf-takes
 
 -- a group
+module _ (c : tie.After-taken3) where
+  abbrev group-start : tie.Start
+  group-start = c .before .before
 
-group-room : (c : tie.Else1) → (c .before .args .p .have < 8) × (8 * c .before .args .p .at + c .before .args .p .have + 9 ≤ 8 * recordRoom)
-group-room c =
-    let s = c .before in
-    (s .pre .0 .few, omega (arith, s .pre .0 .room, group-length (s .args .hours .now) (s .args .field) (c .if1 .left)))
+  group-takes : Takes (fieldBits (group-start .args .hours .now) (group-start .args .field)) (group-start .args .p) (c .taken3 .result)
+  group-takes =
+      let s = group-start .args in
+      subst (λ l. Takes l (s .p) (c .taken3 .result)) (group-bits (s .hours .now) (s .field) (c .before .if1 .left)) (c .taken3 .ensures)
 
-group-taken
-    : (c : tie.After-taken2)
-    → let p = c .before .before .args .p in
-    (c .taken2 .result .have ≡ p .have + 9) × (c .taken2 .result .at ≡ p .at)
-group-taken c = (c .taken2 .ensures .more ∙ ap (λ k. c .before .before .args .p .have + k) (length-bits 9 _), c .taken2 .ensures .place)
+  group-room
+      : (9 ≤ c .taken3 .result .have) × (c .taken3 .result .have < 8 + 9) × (8 * c .taken3 .result .at + c .taken3 .result .have ≤ 8 * recordRoom)
+  group-room =
+      let s = group-start in takes-room (group-length (s .args .hours .now) (s .args .field) (c .before .if1 .left)) (s .pre .0) group-takes
 
-mul-taken : tie.Need-mul-taken
-mul-taken c = search needs
+taken-requires : tie.Need-taken-requires
+taken-requires c κs = omega (arith, c .before .pre .0 .few, c .if1 .taken)
 
 mul-wide : tie.Need-mul-wide
 mul-wide c = search needs
@@ -60,80 +61,66 @@ element-copy-out-wide c = search needs
 wide-requires : tie.Need-wide-requires
 wide-requires c κs = search needs
 
-add-taken : tie.Need-add-taken
-add-taken c = record { fits = omega (arith, leaf-few c) }
-
-taken-requires : tie.Need-taken-requires
-taken-requires c κs = leaf-few c
+taken-requires-2 : tie.Need-taken-requires-2
+taken-requires-2 c κs =
+    let t = c .before .before in
+    let s = t .before .before in (
+      omega (arith, t .taken .ensures .more, length-bits 8 (s .args .field), s .pre .0 .few),
+      subst (λ h. h < 2 ^ hoursBits) (sym (c .wide .ensures))
+          (entry-below (s .args .hours .now) (s .args .field) (2 ^ hoursBits) (omega arith) (s .pre .1)),
+    )
 
 moved-requires : tie.Need-moved-requires
-moved-requires c κs = let k = c .before in omega (arith, leaf-taken k, leaf-room (k .before))
+moved-requires c κs = omega (arith, leaf-room (c .before))
 
 moved-requires-2 : tie.Need-moved-requires-2
-moved-requires-2 c κs =
-    let k = c .before .before .before in
-    omega (arith, leaf-taken k, leaf-room (k .before), c .before .moved .ensures .place, c .before .moved .ensures .fewer)
+moved-requires-2 c κs = let one = c .before .moved .ensures in omega (arith, leaf-room (c .before .before .before), one .place, one .fewer)
 
 moved-if-full-requires : tie.Need-moved-if-full-requires
 moved-if-full-requires c κs =
-    let k = c .before .before .before .before .before in
+    let room = leaf-room (c .before .before .before .before .before) in
     let one = c .before .before .before .moved .ensures in
-    let two = c .before .moved2 .ensures in (
-      omega (arith, leaf-taken k, leaf-room (k .before), one .fewer, two .fewer),
-      λ many. omega (arith, leaf-taken k, leaf-room (k .before), one .fewer, one .place, two .fewer, two .place),
-    )
+    let two = c .before .moved2 .ensures in
+    (omega (arith, room, one .fewer, two .fewer), λ many. omega (arith, room, one .fewer, one .place, two .fewer, two .place))
 
-add-taken-2 : tie.Need-add-taken-2
-add-taken-2 c = search needs
+add-taken : tie.Need-add-taken
+add-taken c = search needs
 
-taken-requires-2 : tie.Need-taken-requires-2
-taken-requires-2 c κs = (omega (arith, c .before .pre .0 .few), omega arith)
+taken-requires-3 : tie.Need-taken-requires-3
+taken-requires-3 c κs = (omega (arith, c .before .pre .0 .few), omega arith)
 
 moved-requires-3 : tie.Need-moved-requires-3
-moved-requires-3 c κs = let k = c .before in omega (arith, group-taken k, group-room (k .before))
+moved-requires-3 c κs = omega (arith, group-room (c .before))
 
 moved-if-full-requires-2 : tie.Need-moved-if-full-requires-2
 moved-if-full-requires-2 c κs =
-    let k = c .before .before .before in
-    let one = c .before .moved3 .ensures in (
-      omega (arith, group-taken k, group-room (k .before), one .fewer),
-      λ many. omega (arith, group-taken k, group-room (k .before), one .fewer, one .place),
-    )
+    let room = group-room (c .before .before .before) in
+    let one = c .before .moved3 .ensures in
+    (omega (arith, room, one .fewer), λ many. omega (arith, room, one .fewer, one .place))
 
 returns : tie.Need-returns
 returns c =
     let k = c .before .before .before .before .before .before in
-    let w = k .before in
-    let s = leaf-start w in
-    subst (λ l. Puts l (s .args .bytes .now) (s .args .p) (c .moved-if-full .last .0) (c .moved-if-full .result))
-    (ap (λ h. bits leafBits (s .args .field * 4096 + h)) (w .wide .ensures)
-    ∙ leaf-bits (s .args .hours .now) (s .args .field) (w .before .before .if1 .taken) (hours-small w))
-    (puts-after (k .taken .ensures) (c .before .before .before .before .moved .ensures)
-    (moves-both (c .before .before .moved2 .ensures) (c .moved-if-full .ensures)))
+    puts-after (leaf-takes k) (c .before .before .before .before .moved .ensures)
+    (moves-both (c .before .before .moved2 .ensures) (c .moved-if-full .ensures))
 
 returns-2 : tie.Need-returns-2
-returns-2 c =
-    let k = c .before .before .before .before in
-    let s = k .before .before in
-    subst (λ l. Puts l (s .args .bytes .now) (s .args .p) (c .moved-if-full2 .last .0) (c .moved-if-full2 .result))
-    (group-bits (s .args .hours .now) (s .args .field) (k .before .if1 .left))
-    (puts-after (k .taken2 .ensures) (c .before .before .moved3 .ensures) (c .moved-if-full2 .ensures))
+returns-2 c = puts-after (group-takes (c .before .before .before .before)) (c .before .before .moved3 .ensures) (c .moved-if-full2 .ensures)
 
 pub put-field-spec : {M : Type 1} → statement M
 put-field-spec =
     tie.close
     (tie.spec
-    mul-taken
+    taken-requires
     mul-wide
     element-copy-out-wide
     wide-requires
-    add-taken
-    taken-requires
+    taken-requires-2
     moved-requires
     moved-requires-2
     moved-if-full-requires
-    add-taken-2
-    taken-requires-2
+    add-taken
+    taken-requires-3
     moved-requires-3
     moved-if-full-requires-2
     returns
