@@ -32,7 +32,7 @@
  * A pointer is good for as many bytes as the length after it says; where that is 0 it is not followed. An area
  * overlaps neither the other area nor the input. The calls never fail otherwise, whatever the input is: they
  * allocate nothing, keep nothing between calls, and may run on several threads at once. A call takes less than
- * ORDERSHEET_STACK bytes of stack: tests/stack/stack.c measures up to 46,000 for a sheet and 16,000 for bytes offered
+ * ORDERSHEET_STACK bytes of stack: tests/stack/stack.c measures up to 50,000 for a sheet and 16,000 for bytes offered
  * as a record. */
 
 #ifndef ORDERSHEET_H
