@@ -1,61 +1,22 @@
 -- What is known of the lists after a sheet is read.
 use Prim.Native.Nat.{ℕ, _+_, _*_, _≤_, _<_}
 use mathlib.Core.Path.{_≡_, refl, sym, ap, _∙_}
-use mathlib.Core.List.{List, [], _∷_, _++_, map}
+use mathlib.Core.List.{List}
 use mathlib.Core.Bool.{Bool, true, false}
 use mathlib.Core.Logic.{_⊎_, ⊎-elim}
 use native.Mathlib.Decide.{decLt}
 use native.Mathlib.Omega.{arith}
-use lib.ListN.{length, take, length-append}
+use lib.ListN.{length, take}
 use Rattle.poset.specs.Areas.{arcBytes}
 use Rattle.poset.specs.Order.{Arc}
 use Rattle.poset.proofs.Laws.{clash}
-use Rattle.sheet.specs.Text.{LineEnd, feed, returnFeed, endBytes, space, decimal, arcText, lines, text, LineForm}
 use Rattle.sheet.specs.Scan.{Read, sheet, broken, scan}
 use Rattle.sheet.specs.Listing.{hoursListing, listing, resultOf, hoursIn, arcsIn, Answers}
 use Rattle.sheet.specs.declared.SheetRead.{SheetRead}
 use Rattle.sheet.specs.declared.SheetRead.the-variants.{Sheet, Broken}
-use Rattle.sheet.proofs.Decimal.{decimal-some}
 use Rattle.sheet.proofs.Listing.{hours-length, hours-front, listing-length, listing-front}
 use Rattle.sheet.proofs.Theorems.{scan-sheet}
-
--- An arc has at least four bytes.
-
-end-some : (e : LineEnd) → 0 < length (endBytes e)
-unfolding endBytes
-end-some feed = omega arith
-end-some returnFeed = omega arith
-
-line-long : (l : List ℕ) (e : LineEnd) (rest : List ℕ) → length l + 1 + length rest ≤ length (l ++ (endBytes e ++ rest))
-line-long l e rest = omega (arith, length-append l (endBytes e ++ rest), length-append (endBytes e) rest, end-some e)
-
-arcs-long : (arcs : List Arc) (ends : List LineEnd) → length ends ≡ length (map arcText arcs) → 4 * length arcs ≤ length (text (map arcText arcs) ends)
-unfolding text arcText
-arcs-long [] ends e = omega arith
-arcs-long (a ∷ arcs) [] e = absurd (omega arith)
-arcs-long (a ∷ arcs) (x ∷ ends) e =
-    omega (
-      arith,
-      arcs-long arcs ends (omega arith),
-      line-long (arcText a) x (text (map arcText arcs) ends),
-      length-append (decimal (a .0)) (space ∷ decimal (a .1)),
-      decimal-some (a .0),
-      decimal-some (a .1),
-    )
-
-lines-long
-    : (ls : List (List ℕ)) (arcs : List Arc) (ends : List LineEnd) → length ends ≡ length (ls ++ map arcText arcs)
-    → 4 * length arcs ≤ length (text (ls ++ map arcText arcs) ends)
-unfolding text
-lines-long [] arcs ends e = arcs-long arcs ends e
-lines-long (l ∷ ls) arcs [] e = absurd (omega arith)
-lines-long (l ∷ ls) arcs (x ∷ ends) e = omega (arith, lines-long ls arcs ends (omega arith), line-long l x (text (ls ++ map arcText arcs) ends))
-
-pub form-long : (s : List ℕ) (n : ℕ) (hours : List ℕ) (arcs : List Arc) → LineForm s n hours arcs → 4 * length arcs ≤ length s
-unfolding lines
-form-long s n hours arcs f =
-    let t = f .form .written in
-    omega (arith, lines-long (decimal n ∷ map decimal hours) arcs (t .ends) (t .each), ap length (t .written))
+use Rattle.analysis.proofs.Lengths.{form-long}
 
 abbrev isSheet : SheetRead → Bool
 isSheet (Sheet n k) = true

@@ -1,4 +1,4 @@
-//! The planning desk's calls, for C: an answer is one number, and there are no sequences.
+//! The planning desk's calls, for C: an answer is one number, and there are no sequences and no hours.
 pub mod answer;
 
 ghost use mathlib.Core.List.{[]};
