@@ -34,7 +34,9 @@ same-length-2 c = search needs
 
 returns : tie.Need-returns
 unfolding packed
-returns c = ap packed (sym (c .before .read .given .1) ∙ c .before .before .before .before .before .before .before .read-sheet .ensures .result)
+returns c =
+    let k = c .before .before .before .before .before .before .before .read-sheet .ensures in
+    (ap packed (sym (c .before .read .given .1) ∙ k .result), k .hours-listed, k .listed)
 
 same-length-3 : tie.Need-same-length-3
 same-length-3 c = search needs
@@ -44,7 +46,9 @@ same-length-4 c = search needs
 
 returns-2 : tie.Need-returns-2
 unfolding packed
-returns-2 c = ap packed (sym (c .before .read2 .given .1) ∙ c .before .before .before .before .before .before .before .read-sheet .ensures .result)
+returns-2 c =
+    let k = c .before .before .before .before .before .before .before .read-sheet .ensures in
+    (ap packed (sym (c .before .read2 .given .1) ∙ k .result), k .hours-listed, k .listed)
 
 pub sheet-bench-read-spec : {M : Type 1} → statement M
 sheet-bench-read-spec =
