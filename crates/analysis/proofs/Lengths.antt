@@ -8,6 +8,7 @@ use Rattle.poset.specs.Order.{Arc, Within}
 use Rattle.record.specs.Bits.{AllBelow}
 use Rattle.record.proofs.Below.{below-head, below-tail}
 use Rattle.sheet.specs.Text.{mostDigits, hoursDigits, LineEnd, feed, returnFeed, endBytes, space, decimal, arcText, lines, text, LineForm}
+use Rattle.sheet.specs.Reading.{longestLine}
 use Rattle.sheet.proofs.Decimal.{decimal-length, decimal-some}
 use Rattle.analysis.specs.Bounds.{longestSheet}
 
@@ -52,10 +53,10 @@ form-long s n hours arcs f =
     let t = f .form .written in
     omega (arith, lines-long (decimal n ∷ map decimal hours) arcs (t .ends) (t .each), ap length (t .written))
 
--- and at most these
+-- at most `longestLine` for an arc; for the count, and for hours, as many as its digits and its end may have
 
 arcs-short
-    : (arcs : List Arc) (ends : List LineEnd) → Within (10 ^ mostDigits) arcs → length (text (map arcText arcs) ends) ≤ (mostDigits + 1 + mostDigits + 2) * length arcs
+    : (arcs : List Arc) (ends : List LineEnd) → Within (10 ^ mostDigits) arcs → length (text (map arcText arcs) ends) ≤ longestLine * length arcs
 unfolding text arcText
 arcs-short [] ends w = omega arith
 arcs-short (a ∷ arcs) [] w = omega arith
@@ -70,36 +71,37 @@ arcs-short (a ∷ arcs) (x ∷ ends) w =
       decimal-length 2 (a .1) (small .1),
     )
 
-hours-short
-    : (hours : List ℕ) (arcs : List Arc) (ends : List LineEnd) → AllBelow (10 ^ hoursDigits) hours → Within (10 ^ mostDigits) arcs
-    → length (text (map decimal hours ++ map arcText arcs) ends) ≤ (hoursDigits + 2) * length hours + (mostDigits + 1 + mostDigits + 2) * length arcs
-unfolding text
-hours-short [] arcs ends b w = omega (arith, arcs-short arcs ends w)
-hours-short (h ∷ hours) arcs [] b w = omega arith
-hours-short (h ∷ hours) arcs (x ∷ ends) b w =
-    omega (
-      arith,
-      hours-short hours arcs ends (below-tail b) w,
-      line-length (decimal h) x (text (map decimal hours ++ map arcText arcs) ends),
-      decimal-length 3 h (below-head b),
-    )
+module _ (arcs : List Arc) (w : Within (10 ^ mostDigits) arcs) where
+  hours-short
+      : (hours : List ℕ) (ends : List LineEnd) → AllBelow (10 ^ hoursDigits) hours
+      → length (text (map decimal hours ++ map arcText arcs) ends) ≤ (hoursDigits + 2) * length hours + longestLine * length arcs
+  unfolding text
+  hours-short [] ends b = omega (arith, arcs-short arcs ends w)
+  hours-short (h ∷ hours) [] b = omega arith
+  hours-short (h ∷ hours) (x ∷ ends) b =
+      omega (
+        arith,
+        hours-short hours ends (below-tail b),
+        line-length (decimal h) x (text (map decimal hours ++ map arcText arcs) ends),
+        decimal-length 3 h (below-head b),
+      )
 
-text-short
-    : (n : ℕ) (hours : List ℕ) (arcs : List Arc) (ends : List LineEnd) → n < 10 ^ mostDigits → AllBelow (10 ^ hoursDigits) hours → Within (10 ^ mostDigits) arcs
-    → length (text (lines n hours arcs) ends) ≤ mostDigits + 2 + (hoursDigits + 2) * length hours + (mostDigits + 1 + mostDigits + 2) * length arcs
-unfolding lines text
-text-short n hours arcs [] l b w = omega arith
-text-short n hours arcs (x ∷ ends) l b w =
-    omega (
-      arith,
-      hours-short hours arcs ends b w,
-      line-length (decimal n) x (text (map decimal hours ++ map arcText arcs) ends),
-      decimal-length 2 n l,
-    )
+  text-short
+      : (n : ℕ) (hours : List ℕ) (ends : List LineEnd) → n < 10 ^ mostDigits → AllBelow (10 ^ hoursDigits) hours
+      → length (text (lines n hours arcs) ends) ≤ mostDigits + 2 + (hoursDigits + 2) * length hours + longestLine * length arcs
+  unfolding lines text
+  text-short n hours [] l b = omega arith
+  text-short n hours (x ∷ ends) l b =
+      omega (
+        arith,
+        hours-short hours ends b,
+        line-length (decimal n) x (text (map decimal hours ++ map arcText arcs) ends),
+        decimal-length 2 n l,
+      )
 
 -- so none within the limits is too long
 pub form-short
     : (s : List ℕ) (n : ℕ) (hours : List ℕ) (arcs : List Arc) → LineForm s n hours arcs → n ≤ 128 → length arcs ≤ 4096 → length s ≤ longestSheet
 form-short s n hours arcs f jobs few =
     let k = f .form in
-    omega (arith, text-short n hours arcs (k .written .ends) (k .count) (k .hours-small) (k .small), ap length (k .written .written), f .jobs)
+    omega (arith, text-short arcs (k .small) n hours (k .written .ends) (k .count) (k .hours-small), ap length (k .written .written), f .jobs)
