@@ -1,25 +1,17 @@
 -- The refusal of an order with an N, and the outcome of an order taken apart.
-use Prim.Native.Nat.{ℕ, _*_, _≤_, _<_}
+use Prim.Native.Nat.{ℕ}
 use mathlib.Core.Path.{_≡_, refl, sym, ap, ap₂, subst, _∙_}
-use mathlib.Core.List.{List, [], flatMap}
-use mathlib.Core.Bool.{Bool, true, false}
+use mathlib.Core.List.{List, flatMap}
 use mathlib.Core.Option.{Option, none, some}
-use mathlib.Core.Logic.{⊎-elim}
-use native.Mathlib.Omega.{arith}
-use lib.Dec.{ltb}
-use lib.ListN.{length, drop, replicate}
 use Rattle.poset.specs.Areas.{overlay, padded, arcBytes}
-use Rattle.poset.specs.Order.{Rel, Four, Strict, firstN, reduction}
+use Rattle.poset.specs.Order.{Rel, Four, Strict, firstN}
 use Rattle.poset.specs.Tree.{Tree}
 use Rattle.poset.specs.Decompose.{treeOf}
-use Rattle.poset.proofs.Laws.{clash, lt-true, false-unless, ltb-true, found-or-none, found-clash}
 use Rattle.poset.proofs.Theorems.{tree-of-sound, tree-has-no-n, first-n-none}
-use Rattle.relation.specs.Arcs.{foundFour}
-use Rattle.relation.specs.declared.FoundFour.{FoundFour}
 use Rattle.relation.specs.declared.FoundFour.the-variants as four
 use Rattle.analysis.specs.Answer.{answer}
-use Rattle.analysis.specs.Outcome.{Rooms, Outcome, refuse, accept, arcsFit, fitted, decomposed, ordered}
-use Rattle.analysis.specs.Result.{answerOf, refusal, crossedBy, rooms, Gives}
+use Rattle.analysis.specs.Outcome.{Rooms, Outcome, refuse, accept, fitted, decomposed}
+use Rattle.analysis.specs.Result.{answerOf, refusal, crossedBy, Gives}
 use Rattle.analysis.specs.declared.Verdict.{Verdict}
 use Rattle.analysis.specs.declared.Verdict.the-variants as verdict
 use Rattle.analysis.specs.declared.Analysis.{Analysis}
@@ -41,6 +33,16 @@ gives-refusal v o bytes area k a b c d e h =
       reverse-is = ap (λ (o : Outcome). padded (o .reverse)) (sym e);
       hours-is = ap (λ (o : Outcome). padded (o .hours)) (sym e);
     }
+
+-- what a call hands back is what was made of the outcome
+pub gives-told : {o : Outcome} {bytes area : List ℕ} {r q : Analysis} {bytes′ area′ : List ℕ} → r ≡ q → Gives o bytes area q bytes′ area′
+    → Gives o bytes area r bytes′ area′
+gives-told {o = o} {bytes = bytes} {area = area} {bytes′ = bytes′} {area′ = area′} e g = subst (λ r. Gives o bytes area r bytes′ area′) (sym e) g
+
+pub gives-refused
+    : {v : Verdict} {o : Outcome} {bytes area : List ℕ} {r : Analysis} {k a b c d : ℕ} → r ≡ refusal v → o ≡ refuse k a b c d → answerOf v ≡ answer k a b c d
+    → Gives o bytes area r bytes area
+gives-refused e h same = gives-told e (gives-refusal _ _ _ _ _ _ _ _ _ h same)
 
 -- the outcome, by what the search for an N and for a tree find
 

@@ -1,5 +1,5 @@
 -- What is known of the lists after a sheet is read.
-use Prim.Native.Nat.{ℕ, _+_, _*_, _≤_, _<_}
+use Prim.Native.Nat.{ℕ, _*_, _≤_, _<_}
 use mathlib.Core.Path.{_≡_, refl, sym, ap, _∙_}
 use mathlib.Core.List.{List}
 use mathlib.Core.Bool.{Bool, true, false}
@@ -11,7 +11,7 @@ use Rattle.poset.specs.Areas.{arcBytes}
 use Rattle.poset.specs.Order.{Arc}
 use Rattle.poset.proofs.Laws.{clash}
 use Rattle.sheet.specs.Scan.{Read, sheet, broken, scan}
-use Rattle.sheet.specs.Listing.{hoursListing, listing, resultOf, hoursIn, arcsIn, Answers}
+use Rattle.sheet.specs.Listing.{hoursListing, resultOf, hoursIn, arcsIn, Answers}
 use Rattle.sheet.specs.declared.SheetRead.{SheetRead}
 use Rattle.sheet.specs.declared.SheetRead.the-variants.{Sheet, Broken}
 use Rattle.sheet.proofs.Listing.{hours-length, hours-front, listing-length, listing-front}

@@ -14,7 +14,7 @@ use Rattle.poset.specs.Areas.{overlay, padded}
 use Rattle.poset.specs.Tree.{Tree}
 use Rattle.relation.specs.Arcs.{placeFrom, place}
 use Rattle.record.specs.Bits.{AllBelow, bits, bytesOf}
-use Rattle.record.specs.Layout.{hoursBits, mostHours, treeBits, layout}
+use Rattle.record.specs.Layout.{hoursBits, mostHours, layout}
 use Rattle.record.proofs.Below.{below-nil, below-cons, below-append}
 use Rattle.record.proofs.Entries.{tree-agree}
 use Rattle.writer.specs.Written.{written}

@@ -1,9 +1,9 @@
 //! The hours of jobs.
 use relation::Found;
-ghost use Prim.Native.Nat.{_≤_};
+ghost use Prim.Native.Nat.{ℕ, _≤_};
 ghost use mathlib.Core.Path.{_≡_};
-ghost use mathlib.Core.Option.{none};
-ghost use mathlib.Core.Bool.{false};
+ghost use mathlib.Core.Option.{none, some};
+ghost use mathlib.Core.Bool.{true, false};
 ghost use lib.Dec.{ltb};
 ghost use lib.ListN.{length};
 ghost use Rattle.poset.specs.Areas.{padded};
@@ -19,7 +19,8 @@ fn large(hours: u16) -> bool
 
 // Whether some job has more. A loop with no exit in it, for several jobs at a time.
 fn some_large(hours: &[u16]) -> bool
-    ensures { λ r. ⌜ (r ≡ false → none ≡ place (ltb mostHours) (now (hours .entry))) ⌝ }
+    ensures { λ r. ⌜ (r ≡ false → none ≡ place (ltb mostHours) (now (hours .entry)))
+        × (r ≡ true → (j : ℕ) × (some j ≡ place (ltb mostHours) (now (hours .entry)))) ⌝ }
 {
     let mut some = false;
     for i in 0..hours.len() {

@@ -1,6 +1,6 @@
 -- How large the places of an answer are.
 use Prim.Native.Nat.{ℕ, _≤_, _<_}
-use mathlib.Core.Path.{_≡_, refl, ap}
+use mathlib.Core.Path.{refl, ap}
 use mathlib.Core.List.{List, _∷_}
 use mathlib.Core.Logic.{inr, ⊎-elim}
 use native.Mathlib.Decide.{ℕ-discrete}

@@ -1,7 +1,7 @@
 -- What the analysis gives for an accepted sheet, taken out of its answer and areas again.
 use Prim.Native.Nat.{ℕ, _+_, _*_, _/_, _≤_, _<_}
-use mathlib.Core.Path.{_≡_, refl, sym, ap, ap₂, _∙_}
-use mathlib.Core.List.{List, [], _∷_, _++_, flatMap}
+use mathlib.Core.Path.{_≡_, sym, ap, ap₂, _∙_}
+use mathlib.Core.List.{List, _++_}
 use native.Mathlib.Omega.{arith}
 use lib.ListN.{length, take, drop, getD, length-take, List·getD-append}
 use lib.Seq.{take-at}
@@ -16,10 +16,9 @@ use Rattle.record.specs.Layout.{leafBits, recordRoom}
 use Rattle.record.proofs.Sizes.{length-leaves}
 use Rattle.record.proofs.Theorems.{layout-length}
 use Rattle.writer.proofs.Worklist.{reversed-length}
-use Rattle.analysis.specs.Answer.{Answer, answer, numbersOf}
+use Rattle.analysis.specs.Answer.{answer, numbersOf}
 use Rattle.analysis.specs.Outcome.{roomy, Outcome, refuse, sheetOutcome}
 use Rattle.analysis.specs.Result.{answerOf, rooms, Gives}
-use Rattle.analysis.specs.declared.Verdict.{Verdict}
 use Rattle.analysis.specs.declared.Analysis.{Analysis}
 use Rattle.analysis.specs.Claims.{Yield}
 use Rattle.analysis.proofs.Steps.{pairs-bytes}

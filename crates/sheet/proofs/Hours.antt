@@ -1,12 +1,11 @@
 -- The lines ahead of the order lines: the count line, and the lines of hours one after the other.
-use Prim.Native.Nat.{ℕ, zero, suc, _+_, _-_, _≤_, _<_}
+use Prim.Native.Nat.{ℕ, suc, _+_, _-_, _≤_, _<_}
 use mathlib.Core.Path.{_≡_, refl, sym, ap, subst, _∙_}
 use mathlib.Core.List.{List, [], _∷_, _++_}
 use mathlib.Core.Logic.{inl}
 use native.Mathlib.Omega.{arith}
 use lib.ListN.{length, take, drop, length-append, length-drop}
 use lib.Seq.{take-all, drop-drop}
-use Rattle.poset.specs.Order.{Arc}
 use Rattle.sheet.specs.Text.{mostDigits, hoursDigits, lineEndings}
 use Rattle.sheet.specs.Scan.{countField, hoursField, Read, broken, most, hoursAhead, arcsAhead, fieldOf}
 use Rattle.sheet.specs.Scan.{endings, afterHours, ended, whole, scanFrom, scan}
@@ -15,7 +14,7 @@ use Rattle.sheet.specs.Listing.{hoursListing, AddsHours, resultOf, hours
 use Rattle.sheet.specs.declared.line.Part.the-variants as part
 use Rattle.sheet.specs.declared.HoursRead.the-variants as hours-read
 use Rattle.sheet.specs.declared.SheetRead.{SheetRead}
-use Rattle.sheet.specs.declared.SheetRead.the-variants.{Sheet, Broken}
+use Rattle.sheet.specs.declared.SheetRead.the-variants.{Broken}
 use Rattle.sheet.proofs.Listing.{listing-none, hours-length, hours-none}
 use Rattle.sheet.proofs.Leading.{leads-scan, leads-within, breaks-scan}
 

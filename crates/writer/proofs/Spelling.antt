@@ -14,7 +14,7 @@ use Rattle.poset.proofs.Laws.{clash, flatMap-append}
 use Rattle.poset.proofs.Theorems.{tree-of-sound}
 use Rattle.record.specs.Bits.{bits, bytesOf}
 use Rattle.record.specs.Layout.{hoursBits, kindBit, moreChildren, hoursOf, treeBits, forestBits, layout, recordRoom}
-use Rattle.record.proofs.Fields.{bit-alone, bits-cons}
+use Rattle.record.proofs.Fields.{bits-cons}
 use Rattle.record.proofs.Records.{layout-length}
 use Rattle.record.proofs.Sizes.{groups-lt, forest-groups, kind-below, length-treeBits, length-leaves, Small, small-left, small-right, spans-small}
 use Rattle.writer.specs.Packing.{fieldBits, Ends}

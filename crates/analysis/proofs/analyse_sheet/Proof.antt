@@ -1,11 +1,9 @@
 -- `analyse_sheet` meets its contract: the sheet's length decides 1, and which list it gets.
 use borrow.Author.Needs.{needs}
-use mathlib.Core.Path.{sym, subst, refl}
+use mathlib.Core.Path.{refl}
 use mathlib.Core.Logic.{inl, inr}
 use native.Mathlib.Omega.{arith}
-use Rattle.analysis.specs.Outcome.{sheetOutcome}
-use Rattle.analysis.specs.Result.{rooms, Gives}
-use Rattle.analysis.proofs.Crossing.{gives-refusal}
+use Rattle.analysis.proofs.Crossing.{gives-refused}
 use Rattle.analysis.proofs.Steps.{sheet-long}
 use Rattle.analysis.proofs.analyse_sheet.Statement.{statement}
 use Rattle.analysis.proofs.analyse_sheet.Tie as tie
@@ -14,13 +12,7 @@ refused-requires : tie.Need-refused-requires
 refused-requires c κs = search needs
 
 returns : tie.Need-returns
-returns c =
-    let s = c .before .before .before .before .before in
-    let b = s .args .bytes .now in
-    let ar = s .args .area .now in
-    let text = s .args .sheet .now in
-    subst (λ a. Gives (sheetOutcome (rooms b ar) text) b ar a b ar) (sym (c .refused .ensures))
-    (gives-refusal _ (sheetOutcome (rooms b ar) text) b ar 1 0 0 0 0 (sheet-long (rooms b ar) text (c .before .if1 .taken)) refl)
+returns c = gives-refused (c .refused .ensures) (sheet-long _ _ (c .before .if1 .taken)) refl
 
 slice-aggregate-of-sheet : tie.Need-slice-aggregate-of-sheet
 slice-aggregate-of-sheet c = search needs

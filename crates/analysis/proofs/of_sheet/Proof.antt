@@ -1,16 +1,15 @@
 -- `of_sheet` meets its contract: the read decides 2, and what was read all others.
 use borrow.Author.Needs.{needs}
 use Prim.Native.Nat.{ℕ, _≤_}
-use mathlib.Core.Path.{_≡_, sym, ap, subst, refl, _∙_}
+use mathlib.Core.Path.{_≡_, sym, ap, refl, _∙_}
 use mathlib.Core.List.{List}
 use native.Mathlib.Omega.{arith}
 use lib.ListN.{length, take}
 use lib.Seq.{length-take-le}
 use Rattle.relation.specs.Arcs.{pairs}
 use Rattle.analysis.specs.Bounds.{longestSheet}
-use Rattle.analysis.specs.Outcome.{sheetOutcome}
-use Rattle.analysis.specs.Result.{rooms, Gives}
-use Rattle.analysis.proofs.Crossing.{gives-same, gives-refusal}
+use Rattle.analysis.specs.Result.{rooms}
+use Rattle.analysis.proofs.Crossing.{gives-same, gives-refused}
 use Rattle.analysis.proofs.Steps.{sheet-broken, sheet-read, pairs-bytes}
 use Rattle.analysis.proofs.SheetArcs.{SheetLists, sheet-lists, broken-read, hours-long, looked-within}
 use Rattle.analysis.proofs.of_sheet.Statement.{statement}
@@ -126,9 +125,7 @@ returns-2 : tie.Need-returns-2
 returns-2 c =
     let r = c .before .before .before .before .before .before .before in
     let e = broken-read (text r) _ _ (r .read-sheet .result) (times r) (list r) (r .read-sheet .ensures) _ (c .before .before .read2 .given .1) in
-    subst (λ a. Gives (sheetOutcome (rooms (bytes r) (area r)) (text r)) (bytes r) (area r) a (bytes r) (area r)) (sym (c .refused .ensures))
-    (gives-refusal _ (sheetOutcome (rooms (bytes r) (area r)) (text r)) (bytes r) (area r) 2 _ 0 0 0
-    (sheet-broken (rooms (bytes r) (area r)) (text r) _ (short r) e) refl)
+    gives-refused (c .refused .ensures) (sheet-broken _ (text r) _ (short r) e) refl
 
 pub of-sheet-spec : {M : Type 1} → statement M
 of-sheet-spec =

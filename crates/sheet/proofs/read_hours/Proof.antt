@@ -1,5 +1,5 @@
 -- `sheet::read_hours` meets its contract. The loop's invariant: the hours ahead of `at` are read and listed. Assumes nothing.
-use Prim.Native.Nat.{_-_}
+use Prim.Native.Nat.{_+_, _-_, _^_, _<_}
 use mathlib.Core.Path.{subst}
 use native.Mathlib.Omega.{arith}
 use lib.ListN.{length, take, drop}
@@ -28,6 +28,13 @@ Read c =
 line
     : (c : tie.After-found Inv-loop μ-loop) → Read (c .before .before .before .before .before) (part.Number (c .found .given .0 .0) (c .found .given .0 .1 .0))
 line c = subst (Read (c .before .before .before .before .before)) (c .found .given .1) (c .before .before .hours-line .ensures)
+
+-- its end is within the sheet
+line-end : (c : tie.After-found Inv-loop μ-loop) → c .before .before .before .before .before .loop .at + (c .found .given .0 .1 .0 + 1) < 2 ^ 64
+line-end c =
+    let l = c .before .before .before .before .before in
+    let s = l .before .before .before in
+    omega (arith, hours-within (line c), length-rest (s .args .s .now) (l .loop .at) (l .loop .inv .within), s .good)
 
 fault : (c : tie.After-found2 Inv-loop μ-loop) → Read (c .before .before .before .before .before) (part.Broken (c .found2 .given .0 .0))
 fault c = subst (Read (c .before .before .before .before .before)) (c .found2 .given .1) (c .before .before .hours-line .ensures)
@@ -62,18 +69,10 @@ sub-left : tie.Need-sub-left Inv-loop μ-loop
 sub-left c = search needs
 
 add-at : tie.Need-add-at Inv-loop μ-loop
-add-at c =
-    let f = c .before .before .before .before .before in
-    let l = f .before .before .before .before .before in
-    let o = l .before .before .before in
-    omega (arith, hours-within (line f), length-rest (o .args .s .now) (l .loop .at) (l .loop .inv .within), o .good)
+add-at c = omega (arith, line-end (c .before .before .before .before .before))
 
 add-at-2 : tie.Need-add-at-2 Inv-loop μ-loop
-add-at-2 c =
-    let f = c .before .before .before .before .before in
-    let l = f .before .before .before .before .before in
-    let o = l .before .before .before in
-    omega (arith, hours-within (line f), length-rest (o .args .s .now) (l .loop .at) (l .loop .inv .within), o .good)
+add-at-2 c = omega (arith, line-end (c .before .before .before .before .before))
 
 loop-less : tie.Need-loop-less Inv-loop μ-loop
 loop-less c = search needs

@@ -21,7 +21,7 @@ some-large-requires : tie.Need-some-large-requires Inv-loop μ-loop
 some-large-requires c κs = search needs
 
 returns : tie.Need-returns Inv-loop μ-loop
-returns c = c .before .some-large .ensures (not-true _ (c .if1 .taken))
+returns c = c .before .some-large .ensures .0 (not-true _ (c .if1 .taken))
 
 loop-holds : tie.Need-loop-holds Inv-loop μ-loop
 loop-holds c = passed-none (ltb mostHours) _

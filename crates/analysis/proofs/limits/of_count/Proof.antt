@@ -1,9 +1,8 @@
 use borrow.Author.Needs.{needs}
-use mathlib.Core.Path.{sym, ap₂, subst, refl, _∙_}
+use mathlib.Core.Path.{sym, ap₂, refl, _∙_}
 use native.Mathlib.Omega.{arith}
-use Rattle.analysis.specs.Result.{rooms, Gives}
-use Rattle.analysis.proofs.Crossing.{gives-same, gives-refusal}
-use Rattle.analysis.specs.Outcome.{timed, arcOutcome}
+use Rattle.analysis.proofs.Crossing.{gives-same, gives-refused}
+use Rattle.analysis.specs.Outcome.{timed}
 use Rattle.analysis.proofs.Steps.{some-jobs, count-none, count-above, count-many, count-timed}
 use Rattle.analysis.proofs.limits.of_count.Statement.{statement}
 use Rattle.analysis.proofs.limits.of_count.Tie as tie
@@ -12,41 +11,22 @@ refused-requires : tie.Need-refused-requires
 refused-requires c κs = search needs
 
 returns : tie.Need-returns
-returns c =
-    let s = c .before .before .before .before .before .before in
-    let b = s .args .bytes .now in
-    let ar = s .args .area .now in
-    λ hours arcs times size all.
-    subst (λ a. Gives (arcOutcome (rooms b ar) (s .args .n) hours arcs) b ar a b ar) (sym (c .refused .ensures))
-    (gives-refusal _ (arcOutcome (rooms b ar) (s .args .n) hours arcs) b ar 3 0 0 0 0
-    (count-none (rooms b ar) (s .args .n) hours arcs (c .before .if1 .taken)) refl)
+returns c = λ hours arcs times size all. gives-refused (c .refused .ensures) (count-none _ _ hours arcs (c .before .if1 .taken)) refl
 
 refused-requires-2 : tie.Need-refused-requires-2
 refused-requires-2 c κs = search needs
 
 returns-2 : tie.Need-returns-2
-returns-2 c =
-    let s = c .before .before .before .before .before .before .before in
-    let b = s .args .bytes .now in
-    let ar = s .args .area .now in
-    λ hours arcs times size all.
-    subst (λ a. Gives (arcOutcome (rooms b ar) (s .args .n) hours arcs) b ar a b ar) (sym (c .refused2 .ensures))
-    (gives-refusal _ (arcOutcome (rooms b ar) (s .args .n) hours arcs) b ar 3 0 0 0 0
-    (count-above (rooms b ar) (s .args .n) hours arcs (c .before .if2 .taken)) refl)
+returns-2 c = λ hours arcs times size all. gives-refused (c .refused2 .ensures) (count-above _ _ hours arcs (c .before .if2 .taken)) refl
 
 refused-requires-3 : tie.Need-refused-requires-3
 refused-requires-3 c κs = search needs
 
 returns-3 : tie.Need-returns-3
 returns-3 c =
-    let s = c .before .before .before .before .before .before .before .before in
-    let b = s .args .bytes .now in
-    let ar = s .args .area .now in
+    let some = some-jobs (c .before .before .before .if1 .left) in
     λ hours arcs times size all.
-    subst (λ a. Gives (arcOutcome (rooms b ar) (s .args .n) hours arcs) b ar a b ar) (sym (c .refused3 .ensures))
-    (gives-refusal _ (arcOutcome (rooms b ar) (s .args .n) hours arcs) b ar 4 0 0 0 0
-    (count-many (rooms b ar) (s .args .n) hours arcs
-    (some-jobs (c .before .before .before .if1 .left)) (c .before .before .if2 .left) (omega (arith, size, c .before .if3 .taken))) refl)
+    gives-refused (c .refused3 .ensures) (count-many _ _ hours arcs some (c .before .before .if2 .left) (omega (arith, size, c .before .if3 .taken))) refl
 
 of-hours-requires : tie.Need-of-hours-requires
 of-hours-requires c κs = search needs
@@ -59,16 +39,12 @@ same-length-2 c = search needs
 
 returns-4 : tie.Need-returns-4
 returns-4 c =
-    let test = c .before .before .before .before .before .before .before .before .before in
-    let s = test .before .before .before .before .before in
-    let b = s .args .bytes .now in
-    let ar = s .args .area .now in
     let few = c .before .before .before .before .before .before .before .if3 .left in
     let few-jobs = c .before .before .before .before .before .before .before .before .if2 .left in
+    let some = some-jobs (c .before .before .before .before .before .before .before .before .before .if1 .left) in
     λ hours arcs times size all.
     gives-same
-    (ap₂ (timed (rooms b ar) (s .args .n)) (times few-jobs) (all few)
-    ∙ sym (count-timed (rooms b ar) (s .args .n) hours arcs (some-jobs (test .if1 .left)) few-jobs (omega (arith, size, few))))
+    (ap₂ (timed _ _) (times few-jobs) (all few) ∙ sym (count-timed _ _ hours arcs some few-jobs (omega (arith, size, few))))
     (c .before .before .before .before .of-hours .ensures)
 
 pub of-count-spec : {M : Type 1} → statement M

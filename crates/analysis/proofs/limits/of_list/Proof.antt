@@ -1,9 +1,7 @@
 use borrow.Author.Needs.{needs}
-use mathlib.Core.Path.{sym, ap, subst, refl, _∙_}
-use Rattle.relation.specs.Arcs.{pairs, found}
-use Rattle.analysis.specs.Result.{rooms, Gives}
-use Rattle.analysis.proofs.Crossing.{gives-refusal}
-use Rattle.analysis.specs.Outcome.{listed}
+use mathlib.Core.Path.{sym, ap, refl, _∙_}
+use Rattle.relation.specs.Arcs.{found}
+use Rattle.analysis.proofs.Crossing.{gives-refused}
 use Rattle.analysis.proofs.Steps.{listed-5}
 use Rattle.analysis.proofs.limits.of_list.Statement.{statement}
 use Rattle.analysis.proofs.limits.of_list.Tie as tie
@@ -27,15 +25,8 @@ of-named-requires c κs =
 
 returns : tie.Need-returns
 returns c =
-    let s = c .before .before .before .before .before .before .before .before .before in
-    let b = s .args .bytes .now in
-    let ar = s .args .area .now in
-    let arcs = pairs (s .args .list .now) in
-    let n = s .args .n in
-    let hours = s .args .hours .now in
     let here = sym (c .before .before .before .before .first-outside .ensures) ∙ ap found (c .before .before .far .given .1) in
-    subst (λ a. Gives (listed (rooms b ar) n hours arcs) b ar a b ar) (sym (c .refused .ensures))
-    (gives-refusal _ (listed (rooms b ar) n hours arcs) b ar 5 _ 0 0 0 (listed-5 (rooms b ar) n hours arcs _ here) refl)
+    gives-refused (c .refused .ensures) (listed-5 _ _ _ _ _ here) refl
 
 same-length : tie.Need-same-length
 same-length c = search needs

@@ -1,10 +1,8 @@
 use borrow.Author.Needs.{needs}
-use mathlib.Core.Path.{sym, ap, subst, refl, _∙_}
+use mathlib.Core.Path.{sym, ap, refl, _∙_}
 use Rattle.relation.specs.Arcs.{pairs, found}
-use Rattle.analysis.specs.Result.{rooms, Gives}
-use Rattle.analysis.proofs.Crossing.{gives-same, gives-refusal}
+use Rattle.analysis.proofs.Crossing.{gives-same, gives-refused}
 use Rattle.relation.proofs.Chain.{outside-none}
-use Rattle.analysis.specs.Outcome.{listed}
 use Rattle.analysis.proofs.Steps.{listed-6, listed-order}
 use Rattle.analysis.proofs.limits.of_named.Statement.{statement}
 use Rattle.analysis.proofs.limits.of_named.Tie as tie
@@ -29,14 +27,8 @@ of-arcs-requires c κs =
 returns : tie.Need-returns
 returns c =
     let s = c .before .before .before .before .before .before .before .before .before in
-    let b = s .args .bytes .now in
-    let ar = s .args .area .now in
-    let arcs = pairs (s .args .list .now) in
-    let n = s .args .n in
-    let hours = s .args .hours .now in
     let here = sym (c .before .before .before .before .first-loop .ensures) ∙ ap found (c .before .before .own .given .1) in
-    subst (λ a. Gives (listed (rooms b ar) n hours arcs) b ar a b ar) (sym (c .refused .ensures))
-    (gives-refusal _ (listed (rooms b ar) n hours arcs) b ar 6 _ 0 0 0 (listed-6 (rooms b ar) n hours arcs _ (s .pre .1 .1) here) refl)
+    gives-refused (c .refused .ensures) (listed-6 _ _ _ _ _ (s .pre .1 .1) here) refl
 
 same-length : tie.Need-same-length
 same-length c = search needs
@@ -48,13 +40,8 @@ returns-2 : tie.Need-returns-2
 returns-2 c =
     let test = c .before .before .before .before .before .before .before .before .before in
     let s = test .before .before .before .before .before in
-    let b = s .args .bytes .now in
-    let ar = s .args .area .now in
-    let arcs = pairs (s .args .list .now) in
-    let n = s .args .n in
-    let hours = s .args .hours .now in
     let none-here = sym (test .first-loop .ensures) ∙ ap found (c .before .before .before .before .before .before .before .enum-told .given .1) in
-    gives-same (sym (listed-order (rooms b ar) n hours arcs (s .pre .1 .1) none-here)) (c .before .before .before .before .of-arcs .ensures)
+    gives-same (sym (listed-order _ _ _ _ (s .pre .1 .1) none-here)) (c .before .before .before .before .of-arcs .ensures)
 
 pub of-named-spec : {M : Type 1} → statement M
 of-named-spec =

@@ -1,7 +1,7 @@
 -- `order::of_arcs` meets its contract: the closure's first job before itself decides between 7 and the order taken apart.
 use borrow.Author.Needs.{needs}
 use Prim.Native.Nat.{ℕ}
-use mathlib.Core.Path.{_≡_, sym, ap, subst, _∙_}
+use mathlib.Core.Path.{_≡_, sym, ap, _∙_}
 use mathlib.Core.List.{List}
 use mathlib.Core.Option.{none}
 use native.Mathlib.Omega.{arith}
@@ -10,10 +10,9 @@ use Rattle.relation.specs.Table.{holds, Inside}
 use Rattle.relation.specs.Arcs.{pairs, found}
 use Rattle.relation.proofs.Chain.{table-inside, closure-before, closure-strict}
 use Rattle.relation.proofs.Warshall.{closure-inside}
-use Rattle.analysis.specs.Outcome.{ordered}
-use Rattle.analysis.specs.Result.{rooms, Gives}
+use Rattle.analysis.specs.Result.{rooms}
 use Rattle.analysis.proofs.Circles.{gives-circle, no-circle}
-use Rattle.analysis.proofs.Crossing.{gives-same}
+use Rattle.analysis.proofs.Crossing.{gives-same, gives-told}
 use Rattle.analysis.proofs.order.of_arcs.Statement.{statement}
 use Rattle.analysis.proofs.order.of_arcs.Tie as tie
 
@@ -97,9 +96,7 @@ returns c =
     let q = first .before in
     let p = t q in
     let here = ap (firstOnCycle (n p)) (sym (closes q)) ∙ sym (first .first-on-cycle .ensures) ∙ ap found (c .before .before .circle .given .1) in
-    subst (λ a. Gives (ordered (rooms (bytes p) (area p)) (n p) (hours p) (before (n p) (arcs p))) (bytes p) (area p) a (bytes p) (area p))
-    (sym (c .refused .ensures))
-    (gives-circle (rooms (bytes p) (area p)) (n p) (hours p) (before (n p) (arcs p)) _ (bytes p) (area p) here)
+    gives-told (c .refused .ensures) (gives-circle (rooms (bytes p) (area p)) (n p) (hours p) (before (n p) (arcs p)) _ (bytes p) (area p) here)
 
 same-length : tie.Need-same-length
 same-length c = search needs

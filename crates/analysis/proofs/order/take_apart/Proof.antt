@@ -18,9 +18,8 @@ use Rattle.record.specs.Layout.{hoursBits}
 use Rattle.writer.specs.Written.{written}
 use Rattle.writer.specs.declared.writing.Written.{Written}
 use Rattle.writer.proofs.Spelling.{written-told, bytes-few, bytes-size}
-use Rattle.analysis.specs.Outcome.{Outcome, decomposed}
-use Rattle.analysis.specs.Result.{rooms, Gives}
-use Rattle.analysis.proofs.Crossing.{gives-crossed}
+use Rattle.analysis.specs.Result.{rooms}
+use Rattle.analysis.proofs.Crossing.{gives-told, gives-crossed}
 use Rattle.analysis.proofs.Taking.{count-few, gives-9, gives-10, gives-0}
 use Rattle.analysis.proofs.Times.{padded-below, written-padded}
 use Rattle.analysis.proofs.order.take_apart.Statement.{statement}
@@ -48,9 +47,6 @@ module _ (c : tie.After-struct-known) where
 
   abbrev area : List ℕ
   area = start .args .area .now
-
-  abbrev whole : Outcome
-  whole = decomposed (rooms bytes area) n hours order
 
   abbrev wrote : Written
   wrote = c .before .write-record .result
@@ -123,7 +119,7 @@ returns c =
     let bare =
     written-told (n k) (hours k) (treeOf (n k) (order k)) (wrote k) (wrote-is k) .1
     (not-true (wrote k .ok) (c .before .before .if1 .taken)) in
-    subst (λ a. Gives (whole k) (bytes k) (area k) a (bytes k) (area k)) (sym (c .crossed .ensures))
+    gives-told (c .crossed .ensures)
     (gives-crossed (rooms (bytes k) (area k)) (n k) (hours k) (order k) (bytes k) (area k) bare)
 
 reduced-requires : tie.Need-reduced-requires
@@ -141,7 +137,7 @@ returns-2 c =
     let r = m .before .before in
     let k = was (with-tree r) in
     let (t, e, is) = told (with-tree r) in
-    subst (λ a. Gives (whole k) (bytes k) (area k) a (bytes k) (area k)) (sym (c .refused .ensures))
+    gives-told (c .refused .ensures)
     (gives-9 (n k) (few k) (hours k) (order k) (strict k) t e (wrote k) is (covering r) (r .reduced .ensures) (m .pair-count .result) (m .pair-count .ensures)
     (bytes k) (area k) (c .before .if2 .taken))
 
@@ -166,7 +162,7 @@ returns-3 c =
     let r = m .before .before in
     let k = was (with-tree r) in
     let (t, e, is) = told (with-tree r) in
-    subst (λ a. Gives (whole k) (bytes k) (area k) a (bytes k) (area k)) (sym (c .refused2 .ensures))
+    gives-told (c .refused2 .ensures)
     (gives-10 (n k) (few k) (hours k) (order k) (strict k) t e (wrote k) is (covering r) (r .reduced .ensures) (m .pair-count .result) (m .pair-count .ensures)
     (bytes k) (area k) (c .before .before .if2 .left) (c .before .if3 .taken))
 

@@ -1,16 +1,12 @@
 -- `reading::of_bytes` meets its contract: the tree that was decoded gives the order, and the room decides between 10 and acceptance.
 use borrow.Author.Needs.{needs}
 use borrow.Author.Tests.{not-true, not-false}
-use mathlib.Core.Path.{sym, subst}
-use mathlib.Core.List.{[]}
 use native.Mathlib.Omega.{arith}
-use lib.ListN.{length}
 use Rattle.poset.specs.Order.{Strict}
 use Rattle.relation.specs.Table.{holds, Inside}
 use Rattle.relation.proofs.Chain.{reduced-inside}
 use Rattle.reader.proofs.Whole.{slice-below}
-use Rattle.analysis.specs.Outcome.{recordOutcome}
-use Rattle.analysis.specs.Result.{Gives}
+use Rattle.analysis.proofs.Crossing.{gives-told}
 use Rattle.analysis.proofs.Taking.{count-few}
 use Rattle.analysis.proofs.Decoded.{Decoded, decoded, gives-11, ready, after-inside, after-strict, back-10, back-0}
 use Rattle.analysis.proofs.reading.of_bytes.Statement.{statement}
@@ -46,7 +42,7 @@ returns c =
     let b = s .args .bytes .now in
     let ar = s .args .area .now in
     let r = c .before .before .before .read-record in
-    subst (λ a. Gives (recordOutcome (length ar) b) [] ar a [] ar) (sym (c .refused .ensures))
+    gives-told (c .refused .ensures)
     (gives-11 b (r .result) ar (r .ensures) (not-true _ (c .before .if1 .taken)))
 
 order-of-requires : tie.Need-order-of-requires
@@ -82,7 +78,7 @@ returns-2 c =
     let b = s .args .bytes .now in
     let ar = s .args .area .now in
     let red = m .before .before .reduced in
-    subst (λ a. Gives (recordOutcome (length ar) b) [] ar a [] ar) (sym (c .refused2 .ensures))
+    gives-told (c .refused2 .ensures)
     (back-10 b _ (read-tree (e o)) (o .order-of .result) (o .order-of .ensures) (red .result) (red .ensures) (m .pair-count .result) (m .pair-count .ensures)
     ar (c .before .if2 .taken))
 

@@ -9,7 +9,6 @@ use Rattle.record.specs.Layout.{recordRoom}
 use Rattle.analysis.specs.Answer.{numbersOf}
 use Rattle.analysis.specs.Outcome.{roomy, sheetOutcome}
 use Rattle.analysis.specs.Result.{Gives}
-use Rattle.printer.specs.Text.{printed}
 use Rattle.printer.proofs.Buffers.{prints-of}
 use Rattle.printer.proofs.Given.{Parts, sheet-gives, sheet-parts, refused-whole, parts-limits, parts-whole, front-fits, front-size}
 use Rattle.printer.proofs.outcome.sheet_text.Statement.{statement}

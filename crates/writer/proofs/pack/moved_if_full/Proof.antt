@@ -1,5 +1,4 @@
 -- `pack::moved_if_full`: nothing, or the byte.
-use borrow.Author.Needs.{needs}
 use native.Mathlib.Omega.{arith}
 use Rattle.writer.proofs.Packs.{puts-none, puts-moved}
 use Rattle.writer.proofs.pack.moved_if_full.Statement.{statement}
