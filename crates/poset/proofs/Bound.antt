@@ -7,11 +7,11 @@ use mathlib.Core.Logic.{_⊎_, inl, inr}
 use native.Mathlib.Nat.{mul-le-mul, mul-le-mul-left}
 use native.Mathlib.Omega.{arith}
 use lib.ListN.{length, length-map}
-use Rattle.poset.specs.Lists.{below}
+use Rattle.poset.specs.Lists.{sum, below}
 use Rattle.poset.specs.Order.{Rel, Strict, comparable, covers, pairsOf, reduction}
 use Rattle.poset.proofs.Laws.{clash, or-cases, mem-below}
 use Rattle.poset.proofs.Reduction.{covers-iff}
-use Rattle.poset.proofs.Sums.{bit, sum, sum-le, sum-add, sum-scale, sum-const, sum-pairs, Top, largest, length-keep, length-flatMap, length-below}
+use Rattle.poset.proofs.Sums.{bit, sum-le, sum-add, sum-scale, sum-const, sum-pairs, Top, largest, length-keep, length-flatMap, length-below}
 
 -- numbers and tests
 

@@ -7,7 +7,7 @@ use mathlib.Core.Logic.{⊎-elim}
 use native.Mathlib.Decide.{decLe}
 use native.Mathlib.Omega.{arith}
 use lib.ListN.{length, length-append}
-use Rattle.poset.specs.Lists.{keep, upFrom, below}
+use Rattle.poset.specs.Lists.{keep, sum, upFrom, below}
 use Rattle.poset.proofs.Laws.{decided, keep-yes, keep-not}
 
 -- 1 for a test that passes, 0 for one that fails
@@ -15,10 +15,6 @@ abbrev pub bit : Bool → ℕ
 bit b = cond b 1 0
 
 module _ {ℓ} {A : Type ℓ} where
-  abbrev pub sum : (A → ℕ) → List A → ℕ
-  sum f [] = 0
-  sum f (x ∷ xs) = f x + sum f xs
-
   pub sum-le : (f g : A → ℕ) (xs : List A) → ((x : A) → List·Memᴰ x xs → f x ≤ g x) → sum f xs ≤ sum g xs
   sum-le f g [] h = omega arith
   sum-le f g (x ∷ xs) h = omega (arith, h x (List·Memᴰ·head refl), sum-le f g xs (λ y m. h y (List·Memᴰ·tail m)))

@@ -1,5 +1,5 @@
 -- Small functions on lists.
-use Prim.Native.Nat.{ℕ, zero, suc}
+use Prim.Native.Nat.{ℕ, zero, suc, _+_}
 use mathlib.Core.List.{List, [], _∷_}
 use mathlib.Core.Bool.{Bool, true, false}
 use mathlib.Core.Option.{Option, none, some}
@@ -14,6 +14,11 @@ exists p (x ∷ xs) = elim (p x) [ true ↦ true | false ↦ exists p xs ]
 unfoldable pub keep {ℓ} : {A : Type ℓ} → (A → Bool) → List A → List A
 keep p [] = []
 keep p (x ∷ xs) = elim (p x) [ true ↦ x ∷ keep p xs | false ↦ keep p xs ]
+
+-- what f gives for each element, added up
+abbrev pub sum {ℓ} : {A : Type ℓ} → (A → ℕ) → List A → ℕ
+sum f [] = 0
+sum f (x ∷ xs) = f x + sum f xs
 
 unfoldable pub member : ℕ → List ℕ → Bool
 member x = exists (eqb x)

@@ -5,9 +5,9 @@ use mathlib.Core.List.{List, [], _∷_, List·Memᴰ, List·Memᴰ·head, List·
 use mathlib.Core.Bool.{Bool, true, false, _&&_, _||_, not}
 use native.Mathlib.Omega.{arith}
 use lib.ListN.{length}
-use Rattle.poset.specs.Lists.{exists, below}
+use Rattle.poset.specs.Lists.{exists, sum, below}
 use Rattle.poset.proofs.Laws.{clash, false-unless, any-none, mem-below, below-mem}
-use Rattle.poset.proofs.Sums.{length-keep, bit, sum, sum-le, sum-add}
+use Rattle.poset.proofs.Sums.{length-keep, bit, sum-le, sum-add}
 use Rattle.relation.specs.Table.{has, members, Least}
 
 sum-lt {ℓ} : {A : Type ℓ} (f g : A → ℕ) {y : A} {xs : List A} → ((x : A) → List·Memᴰ x xs → f x ≤ g x) → List·Memᴰ y xs → f y < g y → sum f xs < sum g xs

@@ -6,11 +6,11 @@ use mathlib.Core.Bool.{Bool, true, false, _&&_, not, Bool·not-not}
 use mathlib.Core.Logic.{_⊎_, inl, inr}
 use native.Mathlib.Omega.{arith}
 use lib.ListN.{length}
-use Rattle.poset.specs.Lists.{below}
+use Rattle.poset.specs.Lists.{sum, below}
 use Rattle.poset.specs.Order.{Rel}
 use Rattle.poset.specs.Tree.{series, parallel}
 use Rattle.poset.proofs.Laws.{decided, and-left}
-use Rattle.poset.proofs.Sums.{length-keep, bit, sum, sum-add}
+use Rattle.poset.proofs.Sums.{length-keep, bit, sum-add}
 use Rattle.relation.specs.Table.{has, members}
 use Rattle.record.specs.Layout.{kindBit}
 use Rattle.writer.specs.Parts.{Walk, Splits, closeOf}

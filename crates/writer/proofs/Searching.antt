@@ -8,11 +8,11 @@ use native.Mathlib.Omega.{arith}
 use native.Mathlib.Decide.{ℕ-discrete, decLt}
 use lib.Dec.{eqb}
 use lib.ListN.{length}
-use Rattle.poset.specs.Lists.{exists, below}
+use Rattle.poset.specs.Lists.{exists, sum, below}
 use Rattle.poset.specs.Order.{Rel}
 use Rattle.poset.proofs.Laws.{decided, clash, false-unless, and-left, and-right, and-intro, or-cases, or-left, or-right}
 use Rattle.poset.proofs.Laws.{not-true, not-false, eqb-true, eqb-same, any-hit, any-none, any-miss, below-mem, mem-below}
-use Rattle.poset.proofs.Sums.{length-keep, bit, sum, sum-le}
+use Rattle.poset.proofs.Sums.{length-keep, bit, sum-le}
 use Rattle.relation.specs.Table.{has, members, Least}
 use Rattle.writer.specs.Parts.{Walk, start, next, PartOf, Jobs}
 

@@ -1,0 +1,76 @@
+-- Sums over parts of a list, and over lists without repeats.
+use Prim.Native.Nat.{ℕ, _+_, _≤_}
+use mathlib.Core.Path.{_≡_, refl, sym, ap, _∙_}
+use mathlib.Core.List.{List, [], _∷_, _++_, List·Memᴰ, List·Memᴰ·head, List·Memᴰ·tail}
+use mathlib.Core.Bool.{Bool, true, false, cond}
+use mathlib.Core.Logic.{⊎-elim}
+use native.Mathlib.Omega.{arith}
+use lib.Dec.{eqb}
+use Rattle.poset.specs.Lists.{exists, member, occurrences, sum}
+use Rattle.poset.proofs.Laws.{decided, clash, false-unless, eqb-true, eqb-same, any-yes, any-not, count-same, count-other, mem-count, count-zero, member-mem}
+use Rattle.poset.proofs.Sums.{sum-le}
+
+module _ {ℓ} {A : Type ℓ} where
+  pub sum-append : (f : A → ℕ) (xs ys : List A) → sum f (xs ++ ys) ≡ sum f xs + sum f ys
+  sum-append f [] ys = omega arith
+  sum-append f (x ∷ xs) ys = omega (arith, sum-append f xs ys)
+
+  pub sum-zero : (f : A → ℕ) (xs : List A) → ((x : A) → List·Memᴰ x xs → f x ≡ 0) → sum f xs ≡ 0
+  sum-zero f [] h = refl
+  sum-zero f (x ∷ xs) h = omega (arith, h x (List·Memᴰ·head refl), sum-zero f xs (λ y m. h y (List·Memᴰ·tail m)))
+
+  -- f is at most g everywhere, and by c less at one element
+  pub sum-gap : (f g : A → ℕ) (c : ℕ) → ((x : A) → f x ≤ g x) → {y : A} {xs : List A} → List·Memᴰ y xs → f y + c ≤ g y → sum f xs + c ≤ sum g xs
+  sum-gap f g c h (List·Memᴰ·head {x = x} {xs = xs} e) d =
+      omega (arith, ap f e, ap g e, sum-le f g xs (λ z m. h z))
+  sum-gap f g c h (List·Memᴰ·tail {x = x} {xs = xs} m) d = omega (arith, h x, sum-gap f g c h m d)
+
+-- a list without repeats
+
+abbrev pub Distinct : List ℕ → Type 0
+Distinct xs = (u : ℕ) → occurrences u xs ≤ 1
+
+count-cons : (u x : ℕ) (xs : List ℕ) → occurrences u xs ≤ occurrences u (x ∷ xs)
+count-cons u x xs =
+    ⊎-elim
+    (λ (e : eqb u x ≡ true). omega (arith, count-same u x xs (eqb-true u x e)))
+    (λ (e : eqb u x ≡ false). omega (arith, count-other u x xs (λ q. clash (ap (eqb u) (sym q) ∙ eqb-same u) e)))
+    (decided (eqb u x))
+
+pub distinct-tail : (x : ℕ) (xs : List ℕ) → Distinct (x ∷ xs) → Distinct xs
+distinct-tail x xs d u = omega (arith, d u, count-cons u x xs)
+
+pub distinct-head : (x : ℕ) (xs : List ℕ) → Distinct (x ∷ xs) → List·Memᴰ x xs → ⊥
+distinct-head x xs d m = omega (arith, d x, count-same x x xs refl, mem-count m)
+
+pub distinct-cons : (x : ℕ) (xs : List ℕ) → (List·Memᴰ x xs → ⊥) → Distinct xs → Distinct (x ∷ xs)
+distinct-cons x xs new d u =
+    ⊎-elim
+    (λ (e : eqb u x ≡ true).
+    let none = count-zero x xs new in
+    let q = eqb-true u x e in
+    omega (arith, count-same u x xs q, ap (λ v. occurrences v xs) q))
+    (λ (e : eqb u x ≡ false). omega (arith, d u, count-other u x xs (λ q. clash (ap (eqb u) (sym q) ∙ eqb-same u) e)))
+    (decided (eqb u x))
+
+-- a list without repeats whose elements are all in another has no greater sum than they have there
+pub subset-sum : (w : ℕ → ℕ) (xs ys : List ℕ) → Distinct xs → ((u : ℕ) → List·Memᴰ u xs → List·Memᴰ u ys)
+    → sum w xs ≤ sum (λ u. cond (member u xs) (w u) 0) ys
+unfolding member exists
+subset-sum w [] ys d i = omega arith
+subset-sum w (x ∷ xs) ys d i =
+    omega (
+      arith,
+      subset-sum w xs ys (distinct-tail x xs d) (λ u m. i u (List·Memᴰ·tail m)),
+      sum-gap (λ u. cond (member u xs) (w u) 0) (λ u. cond (member u (x ∷ xs)) (w u) 0) (w x) grows (i x (List·Memᴰ·head refl)) here,
+    )
+  where
+    grows : (u : ℕ) → cond (member u xs) (w u) 0 ≤ cond (member u (x ∷ xs)) (w u) 0
+    grows u =
+        ⊎-elim
+        (λ (e : eqb u x ≡ true). rw (any-yes (eqb u) x xs e) (⊎-elim (λ (b : member u xs ≡ true). rw b (omega arith)) (λ (b : member u xs ≡ false). rw b (omega arith)) (decided (member u xs))))
+        (λ (e : eqb u x ≡ false). rw (any-not (eqb u) x xs e) (omega arith))
+        (decided (eqb u x))
+
+    here : cond (member x xs) (w x) 0 + w x ≤ cond (member x (x ∷ xs)) (w x) 0
+    here = rw (any-yes (eqb x) x xs (eqb-same x), false-unless (member x xs) (λ h. distinct-head x xs d (member-mem x xs h))) (omega arith)

@@ -1,0 +1,115 @@
+-- The runs of trees in a row, on a stack.
+-- For inner contracts alone: who reads the promise of longest_run need not believe it, but specs/Outcome.antt. So it may cite Small, which is
+-- the proofs' form of leaves that fit a record.
+use Prim.Native.Nat.{ℕ, suc, _+_, _*_, _^_, _≤_, _<_}
+use mathlib.Core.Path.{_≡_}
+use mathlib.Core.List.{List, [], _∷_, _++_, map, flatMap, List·Memᴰ}
+use lib.ListN.{length, getD, take}
+use Rattle.poset.specs.Lists.{occurrences, sum}
+use Rattle.poset.specs.Areas.{padded}
+use Rattle.poset.specs.Tree.{Kind, Tree, leaf, node, Forest, leaves}
+use Rattle.record.specs.Bits.{AllBelow}
+use Rattle.record.specs.Layout.{hoursBits, mostHours, moreChildren}
+use Rattle.record.proofs.Sizes.{Small}
+use Rattle.reader.specs.Parts.{Strand}
+use Rattle.longest.specs.Tokens.{groupToken, tokens}
+use Rattle.longest.specs.Longest.{Stretch, joinedRuns, longest, trees}
+use Rattle.longest.specs.declared.stack.Run.{Run}
+use Rattle.longest.specs.declared.showing.Showing.{Showing}
+
+-- the trees in a row after a node more is taken, from the right: a leaf is one tree more, a group takes the place of its children
+pub data Step : ℕ → List Tree → List Tree → Type 0 where
+  one-leaf : {ts : List Tree} (j : ℕ) → Step j ts (leaf j ∷ ts)
+  one-group : {rest : List Tree} (k : Kind) (t : Tree) (f : Forest) → Step (groupToken k (moreChildren f)) (t ∷ trees f ++ rest) (node k t f ∷ rest)
+
+-- no job stands twice in the trees, and they fit a record
+pub record Fits (ts : List Tree) : Type 0 where
+  pub once : (u : ℕ) → occurrences u (flatMap leaves ts) ≤ 1
+  pub small : Small (flatMap leaves ts)
+
+-- the stack's lists, from its top on: the total, the first and the last job of each run; and for each job the one after it in its run
+pub record Runs : Type 0 where
+  pub totals : List ℕ
+  pub firsts : List ℕ
+  pub lasts : List ℕ
+  pub next : List ℕ
+
+abbrev pub runs : List ℕ → List ℕ → List ℕ → List ℕ → Runs
+runs totals firsts lasts next = record { totals = totals; firsts = firsts; lasts = lasts; next = next }
+
+pub record Sized (w : Runs) : Type 0 where
+  pub totals-size : length (w .totals) ≡ 128
+  pub firsts-size : length (w .firsts) ≡ 128
+  pub lasts-size : length (w .lasts) ≡ 128
+  pub next-size : length (w .next) ≡ 128
+
+-- the run a stands at an entry; runs stand at the entries from there on
+pub record Entry (w : Runs) (at : ℕ) (a : Stretch) : Type 0 where
+  pub total : getD (w .totals) at 0 ≡ a .0
+  pub strand : Strand (w .next) (getD (w .firsts) at 0) (a .1) (getD (w .lasts) at 0)
+
+abbrev pub Entries : Runs → ℕ → List Stretch → Type 0
+Entries w at [] = Unit {0}
+Entries w at (a ∷ rs) = Entry w at a × Entries w (suc at) rs
+
+abbrev pub jobsOf : List Stretch → List ℕ
+jobsOf = flatMap (λ a. a .1)
+
+-- the run of a group of kind k whose children have these runs
+abbrev pub runOf : Kind → List Stretch → Stretch
+runOf k [] = (0, [])
+runOf k (a ∷ []) = a
+runOf k (a ∷ b ∷ rs) = joinedRuns k a (runOf k (b ∷ rs))
+
+-- the runs of a group's children, from the top of the stack to `end`
+pub record Beside (rs : List Stretch) (top end : ℕ) (w : Runs) : Type 0 where
+  pub sized : Sized w
+  pub some : 0 < length rs
+  pub last : top + length rs ≡ suc end
+  pub inside : end < 128
+  pub entries : Entries w top rs
+  pub once : (u : ℕ) → occurrences u (jobsOf rs) ≤ 1
+  pub small : AllBelow 128 (jobsOf rs)
+  pub low : sum (λ (a : Stretch). a .0) rs ≤ mostHours * 128
+
+-- the run of the group at `end`; what is further down is as it was, and so are the next jobs of others
+pub record Joined (k : Kind) (rs : List Stretch) (end : ℕ) (w v : Runs) : Type 0 where
+  pub sized : Sized v
+  pub entry : Entry v end (runOf k rs)
+  pub totals-same : (i : ℕ) → end < i → getD (v .totals) i 0 ≡ getD (w .totals) i 0
+  pub firsts-same : (i : ℕ) → end < i → getD (v .firsts) i 0 ≡ getD (w .firsts) i 0
+  pub lasts-same : (i : ℕ) → end < i → getD (v .lasts) i 0 ≡ getD (w .lasts) i 0
+  pub next-same : (u : ℕ) → (List·Memᴰ u (jobsOf rs) → ⊥) → getD (v .next) u 0 ≡ getD (w .next) u 0
+
+abbrev pub Joins : Kind → (top end : ℕ) → Runs → Runs → Type 0
+Joins k top end w v = (rs : List Stretch) → Beside rs top end w → Joined k rs end w v
+
+-- the longest runs of the trees in a row, the first on top
+pub record Stacked (hours : ℕ → ℕ) (ts : List Tree) (top : ℕ) (w : Runs) : Type 0 where
+  pub sized : Sized w
+  pub height : top + length ts ≡ 128
+  pub entries : Entries w top (map (longest hours) ts)
+
+abbrev pub Stacks : (token : ℕ) (hours : ℕ → ℕ) (top on : ℕ) → Runs → Runs → Type 0
+Stacks token hours top on w v = (ts us : List Tree) → Step token ts us → Fits us → Stacked hours ts top w → Stacked hours us on v
+
+-- a tree's nodes in their order
+pub record Listed (t : Tree) (list : List ℕ) (count : ℕ) : Type 0 where
+  pub fits : Fits (t ∷ [])
+  pub number : count ≡ length (tokens t)
+  pub these : take count list ≡ tokens t
+
+-- the run a, by its total, its first and its last job
+pub record Found (a : Stretch) (next : List ℕ) (r : Run) : Type 0 where
+  pub total-is : r .total ≡ a .0
+  pub strand : Strand next (r .first) (a .1) (r .last)
+
+-- different jobs, each followed by its next
+pub record Linked (next : List ℕ) (first last : ℕ) (jobs : List ℕ) : Type 0 where
+  pub strand : Strand next first jobs last
+  pub once : (u : ℕ) → occurrences u jobs ≤ 1
+  pub small : Small jobs
+
+pub record Shown (jobs : List ℕ) (r : Showing) : Type 0 where
+  pub count-is : r .count ≡ length jobs
+  pub jobs-are : r .jobs ≡ padded jobs

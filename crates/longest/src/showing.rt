@@ -1,0 +1,37 @@
+// The jobs of a run in a list.
+ghost use Prim.Native.Nat.{ℕ};
+ghost use mathlib.Core.Path.{_≡_};
+ghost use mathlib.Core.List.{List};
+ghost use Rattle.longest.specs.Stack.{Linked, Shown};
+
+// How many, and these; then zeros.
+pub struct Showing {
+    pub count: usize,
+    pub jobs: [u8; 128],
+}
+
+fn wide(x: u8) -> usize
+    ensures { λ r. ⌜ r ≡ x ⌝ }
+{
+    x as usize
+}
+
+// The jobs from the first to the last, each followed by its next.
+pub fn shown(next: &[u8; 128], first: u8, last: u8) -> Showing
+    requires { ⌜ ((jobs : List ℕ) × Linked (now next) first last jobs) ⌝ }
+    ensures { λ r. ⌜ ((jobs : List ℕ) → Linked (now (next .entry)) first last jobs → Shown jobs r) ⌝ }
+{
+    let mut jobs = [0u8; 128];
+    let mut count = 0;
+    let mut job = first;
+    while job != last {
+        jobs[count] = job;
+        job = next[wide(job)];
+        count += 1;
+    }
+    jobs[count] = last;
+    Showing {
+        count: count + 1,
+        jobs: jobs,
+    }
+}
