@@ -1,3 +1,5 @@
 pub mod Sums
 pub mod Heaviest
 pub mod Longest
+pub mod Entries
+pub mod Folding

@@ -52,6 +52,12 @@ abbrev pub Entries : Runs → ℕ → List Stretch → Type 0
 Entries w at [] = Unit {0}
 Entries w at (a ∷ rs) = Entry w at a × Entries w (suc at) rs
 
+-- what stands at the entries from `at` on has stayed
+pub record SameFrom (at : ℕ) (w v : Runs) : Type 0 where
+  pub totals-same : (i : ℕ) → at ≤ i → getD (v .totals) i 0 ≡ getD (w .totals) i 0
+  pub firsts-same : (i : ℕ) → at ≤ i → getD (v .firsts) i 0 ≡ getD (w .firsts) i 0
+  pub lasts-same : (i : ℕ) → at ≤ i → getD (v .lasts) i 0 ≡ getD (w .lasts) i 0
+
 abbrev pub jobsOf : List Stretch → List ℕ
 jobsOf = flatMap (λ a. a .1)
 
@@ -76,9 +82,7 @@ pub record Beside (rs : List Stretch) (top end : ℕ) (w : Runs) : Type 0 where
 pub record Joined (k : Kind) (rs : List Stretch) (end : ℕ) (w v : Runs) : Type 0 where
   pub sized : Sized v
   pub entry : Entry v end (runOf k rs)
-  pub totals-same : (i : ℕ) → end < i → getD (v .totals) i 0 ≡ getD (w .totals) i 0
-  pub firsts-same : (i : ℕ) → end < i → getD (v .firsts) i 0 ≡ getD (w .firsts) i 0
-  pub lasts-same : (i : ℕ) → end < i → getD (v .lasts) i 0 ≡ getD (w .lasts) i 0
+  pub below : SameFrom (suc end) w v
   pub next-same : (u : ℕ) → (List·Memᴰ u (jobsOf rs) → ⊥) → getD (v .next) u 0 ≡ getD (w .next) u 0
 
 abbrev pub Joins : Kind → (top end : ℕ) → Runs → Runs → Type 0
