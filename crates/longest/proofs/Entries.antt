@@ -6,15 +6,15 @@ use mathlib.Core.Bool.{true, false}
 use mathlib.Core.Logic.{⊎-elim}
 use native.Mathlib.Omega.{arith}
 use lib.Dec.{ltb}
-use lib.ListN.{length, getD, take, drop, take-append-drop}
-use lib.Seq.{split-at, take-suc, length-take-le}
+use lib.ListN.{length, getD, take, drop, set, take-append-drop, length-set}
+use lib.Seq.{split-at, take-suc, length-take-le, getD-set-same, getD-set-other}
 use Rattle.poset.specs.Lists.{occurrences, sum}
 use Rattle.poset.specs.Tree.{Kind, series, parallel}
 use Rattle.poset.proofs.Laws.{decided, count-append, flatMap-append}
 use Rattle.reader.specs.Parts.{Strand}
 use Rattle.reader.proofs.Strands.{strand-kept}
 use Rattle.longest.specs.Longest.{Stretch, joinedRuns}
-use Rattle.longest.specs.Stack.{Runs, Entry, Entries, SameFrom, jobsOf, runOf}
+use Rattle.longest.specs.Stack.{Runs, runs, Sized, Entry, Entries, SameFrom, jobsOf, runOf}
 
 further : {at : ℕ} {w v : Runs} → SameFrom at w v → SameFrom (suc at) w v
 further s =
@@ -54,6 +54,32 @@ entries-append w at (a ∷ rs) ss e =
     let (es, fs) = entries-append w (suc at) rs ss (e .1) in
     let place : suc at + length rs ≡ at + suc (length rs) = omega arith in
     ((e .0, es), subst (λ (i : ℕ). Entries w i ss) place fs)
+
+-- a run put at an entry
+pub entry-put : (w : Runs) (at : ℕ) (a : Stretch) (first last : ℕ) (next : List ℕ) → Sized w → at < 128 → length next ≡ 128 → Strand next first (a .1) last
+    → let v = runs (set (w .totals) at (a .0)) (set (w .firsts) at first) (set (w .lasts) at last) next in Sized v × Entry v at a × SameFrom (suc at) w v
+entry-put w at a first last next sized l size strand = (
+  record {
+    totals-size = length-set (w .totals) at (a .0) ∙ sized .totals-size;
+    firsts-size = length-set (w .firsts) at first ∙ sized .firsts-size;
+    lasts-size = length-set (w .lasts) at last ∙ sized .lasts-size;
+    next-size = size;
+  },
+  record {
+    total = here (w .totals) (a .0) (sized .totals-size);
+    strand =
+        subst (λ (x : ℕ). Strand next x (a .1) (getD (set (w .lasts) at last) at 0)) (sym (here (w .firsts) first (sized .firsts-size)))
+        (subst (λ (x : ℕ). Strand next first (a .1) x) (sym (here (w .lasts) last (sized .lasts-size))) strand);
+  },
+  record {
+    totals-same = λ i m. getD-set-other (w .totals) at i (a .0) 0 (λ q. omega arith);
+    firsts-same = λ i m. getD-set-other (w .firsts) at i first 0 (λ q. omega arith);
+    lasts-same = λ i m. getD-set-other (w .lasts) at i last 0 (λ q. omega arith);
+  },
+)
+  where
+    here : (xs : List ℕ) (x : ℕ) → length xs ≡ 128 → getD (set xs at x) at 0 ≡ x
+    here xs x size = getD-set-same xs at x 0 (omega arith)
 
 -- the run that is missing
 abbrev pub noRun : Stretch

@@ -16,7 +16,7 @@ use Rattle.reader.proofs.Strands.{strand-last, strand-link}
 use Rattle.longest.specs.Longest.{Stretch, joinedRuns}
 use Rattle.longest.specs.Stack.{Runs, runs, Sized, Entry, Entries, SameFrom, jobsOf, runOf, Beside, Joined}
 use Rattle.longest.proofs.Sums.{sum-append}
-use Rattle.longest.proofs.Entries.{noRun, entries-kept, entries-snoc, entry-at, jobs-parted, run-more, run-count, series-total}
+use Rattle.longest.proofs.Entries.{noRun, entries-kept, entry-put, entries-snoc, entry-at, jobs-parted, run-more, run-count, series-total}
 
 module _ (rs : List Stretch) (top end : ℕ) (w : Runs) (b : Beside rs top end w) where
   -- one child more is joined to those after it
@@ -34,36 +34,12 @@ module _ (rs : List Stretch) (top end : ℕ) (w : Runs) (b : Beside rs top end w
       ap (runOf k) (drop-cons rs i noRun (omega arith) ∙ ap (λ (x : List Stretch). getD rs i noRun ∷ x) (drop-of-length-le rs {i = suc i} (omega arith)))
 
   -- a run after all children are joined, at the entry of the last one
-  pub joined-at : (k : Kind) (total first last : ℕ) (next : List ℕ) → total ≡ runOf k rs .0 → Strand next first (runOf k rs .1) last
-      → length next ≡ 128 → ((u : ℕ) → (List·Memᴰ u (jobsOf rs) → ⊥) → getD next u 0 ≡ getD (w .next) u 0)
-      → Joined k rs end w (runs (set (w .totals) end total) (set (w .firsts) end first) (set (w .lasts) end last) next)
-  joined-at k total first last next e strand size same =
-      record {
-        sized =
-            record {
-              totals-size = length-set (w .totals) end total ∙ b .sized .totals-size;
-              firsts-size = length-set (w .firsts) end first ∙ b .sized .firsts-size;
-              lasts-size = length-set (w .lasts) end last ∙ b .sized .lasts-size;
-              next-size = size;
-            };
-        entry =
-            record {
-              total = here (w .totals) total (b .sized .totals-size) ∙ e;
-              strand =
-                  subst (λ (x : ℕ). Strand next x (runOf k rs .1) (getD (set (w .lasts) end last) end 0)) (sym (here (w .firsts) first (b .sized .firsts-size)))
-                  (subst (λ (x : ℕ). Strand next first (runOf k rs .1) x) (sym (here (w .lasts) last (b .sized .lasts-size))) strand);
-            };
-        below =
-            record {
-              totals-same = λ i l. getD-set-other (w .totals) end i total 0 (λ q. omega arith);
-              firsts-same = λ i l. getD-set-other (w .firsts) end i first 0 (λ q. omega arith);
-              lasts-same = λ i l. getD-set-other (w .lasts) end i last 0 (λ q. omega arith);
-            };
-        next-same = same;
-      }
-    where
-      here : (xs : List ℕ) (x : ℕ) → length xs ≡ 128 → getD (set xs end x) end 0 ≡ x
-      here xs x size = getD-set-same xs end x 0 (omega (arith, b .inside))
+  joined-at : (k : Kind) (first last : ℕ) (next : List ℕ) → Strand next first (runOf k rs .1) last → length next ≡ 128
+      → ((u : ℕ) → (List·Memᴰ u (jobsOf rs) → ⊥) → getD next u 0 ≡ getD (w .next) u 0)
+      → Joined k rs end w (runs (set (w .totals) end (runOf k rs .0)) (set (w .firsts) end first) (set (w .lasts) end last) next)
+  joined-at k first last next strand size same =
+      let (sized, entry, below) = entry-put w end (runOf k rs) first last next (b .sized) (b .inside) size strand in
+      record { sized = sized; entry = entry; below = below; next-same = same }
 
   -- the children from k on, one after the other
   pub record Chained (next : List ℕ) (total first k : ℕ) : Type 0 where
@@ -267,15 +243,16 @@ module _ (rs : List Stretch) (top end : ℕ) (w : Runs) (b : Beside rs top end w
       → Joined series rs end w (runs (set (w .totals) end total) (set (w .firsts) end first) (w .lasts) next)
   chained-all next total first k c l =
       let all = all-from series k (c .from-top) l in
-      subst (λ (x : List ℕ). Joined series rs end w (runs (set (w .totals) end total) (set (w .firsts) end first) x next))
+      rw (c .total-is, ap (λ (a : Stretch). a .0) all)
+      (subst (λ (x : List ℕ). Joined series rs end w (runs (set (w .totals) end (runOf series rs .0)) (set (w .firsts) end first) x next))
       (set-getD (w .lasts) end 0)
-      (joined-at series total first (getD (w .lasts) end 0) next (c .total-is ∙ ap (λ (a : Stretch). a .0) all)
-      (subst (λ (a : Stretch). Strand next first (a .1) (getD (w .lasts) end 0)) all (c .strand)) (c .room) (c .others))
+      (joined-at series first (getD (w .lasts) end 0) next
+      (subst (λ (a : Stretch). Strand next first (a .1) (getD (w .lasts) end 0)) all (c .strand)) (c .room) (c .others)))
 
   pub chosen-all : (total best k : ℕ) → Chosen total best k → k ≤ top
       → Joined parallel rs end w
       (runs (set (w .totals) end total) (set (w .firsts) end (getD (w .firsts) best 0)) (set (w .lasts) end (getD (w .lasts) best 0)) (w .next))
   chosen-all total best k c l =
       let e : Entry w best (runOf parallel rs) = subst (Entry w best) (all-from parallel k (c .from-top) l) (c .entry) in
-      joined-at parallel total (getD (w .firsts) best 0) (getD (w .lasts) best 0) (w .next) (c .total-is ∙ e .total) (e .strand)
-      (b .sized .next-size) (λ u m. refl)
+      rw (c .total-is, e .total)
+      (joined-at parallel (getD (w .firsts) best 0) (getD (w .lasts) best 0) (w .next) (e .strand) (b .sized .next-size) (λ u m. refl))
