@@ -44,12 +44,12 @@ pub slice-below : (bytes : List ℕ) → ((i : ℕ) → Fits w8 (getD bytes i 0)
 slice-below bytes fit = all-below 256 bytes (λ i. fit i .fits)
 
 -- what the bits of a record are
-record Spelt (bytes : List ℕ) (n : ℕ) (t : Tree) (hours : List ℕ) : Type 0 where
-  count-at : At (bitsOf bytes) 0 (bits 7 (n - 1))
-  tree-at : At (bitsOf bytes) 7 (treeBits hours t)
-  rest : fills (drop (7 + length (treeBits hours t)) (bitsOf bytes)) ≡ true
+pub record Spelt (bytes : List ℕ) (n : ℕ) (t : Tree) (hours : List ℕ) : Type 0 where
+  pub count-at : At (bitsOf bytes) 0 (bits 7 (n - 1))
+  pub tree-at : At (bitsOf bytes) 7 (treeBits hours t)
+  pub rest : fills (drop (7 + length (treeBits hours t)) (bitsOf bytes)) ≡ true
 
-record-spelt : (bytes : List ℕ) (n : ℕ) (t : Tree) (hours : List ℕ) → IsRecord bytes n t hours → Spelt bytes n t hours
+pub record-spelt : (bytes : List ℕ) (n : ℕ) (t : Tree) (hours : List ℕ) → IsRecord bytes n t hours → Spelt bytes n t hours
 record-spelt bytes n t hours r =
     let f = layout-filled n hours t in
     let head : List ℕ = bits 7 (n - 1) in

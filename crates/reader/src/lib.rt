@@ -1,21 +1,24 @@
-// A record read back: its job count, groups, sequences and hours, or that the bytes are no record; and the order of the sequences.
+// A record read back: its job count, groups, sequences and hours, or its nodes, or that the bytes are no record; and the order of the sequences.
 pub mod ahead;
 mod groups;
+mod listing;
 mod nodes;
 mod parts;
 
 use groups::place;
 use groups::tree;
+use listing::list_nodes;
 use nodes::field;
 use nodes::filled;
 use nodes::wide;
+use record::NODE_ROOM;
 use record::RECORD_ROOM;
 ghost use mathlib.Core.Path.{_≡_};
 ghost use Prim.Native.Nat.{_≤_};
 ghost use mathlib.Core.Option.{none};
 ghost use Rattle.record.specs.Bits.{AllBelow};
 ghost use Rattle.record.specs.Decode.{decode};
-ghost use Rattle.reader.specs.Answer.{reading};
+ghost use Rattle.reader.specs.Answer.{reading, nodes};
 ghost use Rattle.reader.specs.Parts.{walk};
 ghost use Rattle.poset.specs.Areas.{padded};
 
@@ -96,6 +99,48 @@ pub fn read_record(bytes: &[u8]) -> Reading
         groups: part.groups as usize,
         forward: forward,
         reverse: reverse,
+        hours: hours,
+    }
+}
+
+// ok: whether the bytes are a record. Then the job count, how many nodes its tree has, these in their order, node before children,
+// as tokens, and the hours of each job; the entries after them are 0, and all are 0 otherwise.
+pub struct NodeList {
+    pub ok: bool,
+    pub jobs: usize,
+    pub count: usize,
+    pub tokens: [u16; NODE_ROOM],
+    pub hours: [u16; 128],
+}
+
+fn no_nodes() -> NodeList
+    ensures { λ r. ⌜ r ≡ nodes none ⌝ }
+{
+    NodeList {
+        ok: false,
+        jobs: 0,
+        count: 0,
+        tokens: [0; NODE_ROOM],
+        hours: [0; 128],
+    }
+}
+
+// Reads the nodes of a record: `bytes` is any slice.
+pub fn read_nodes(bytes: &[u8]) -> NodeList
+    ensures { λ r. ⌜ r ≡ nodes (decode (now (bytes .entry))) ⌝ }
+{
+    let read = read_record(bytes);
+    if !read.ok {
+        return no_nodes();
+    }
+    let count = read.count + read.groups;
+    let tokens = list_nodes(bytes, count);
+    let hours = read.hours;
+    NodeList {
+        ok: true,
+        jobs: read.count,
+        count: count,
+        tokens: tokens,
         hours: hours,
     }
 }

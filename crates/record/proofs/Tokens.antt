@@ -1,17 +1,18 @@
 -- The tokens of a tree are its bits.
-use Prim.Native.Nat.{ℕ, _+_, _*_, _%_, _^_, _≤_, _<_}
+use Prim.Native.Nat.{ℕ, zero, suc, _+_, _*_, _%_, _^_, _≤_, _<_}
 use mathlib.Core.Path.{_≡_, refl, sym, ap, ap₂, _∙_}
-use mathlib.Core.List.{List, _∷_, _++_, flatMap, append-nil, List·Memᴰ·head}
+use mathlib.Core.List.{List, [], _∷_, _++_, flatMap, append-nil, List·Memᴰ·head}
+use mathlib.Core.Logic.{_⊎_, inl, inr}
 use native.Mathlib.Omega.{arith}
 use lib.Dec.{ltb}
-use lib.ListN.{length, length-append}
-use Rattle.poset.specs.Tree.{Kind, Tree, leaf, node, Forest, last, more, leaves, forestLeaves, groups, forestGroups}
+use lib.ListN.{length, getD, length-append}
+use Rattle.poset.specs.Tree.{Kind, Tree, leaf, node, Forest, last, more, leaves, forestLeaves, groups, forestGroups, Spans}
 use Rattle.poset.proofs.Laws.{lt-true, ltb-true, false-unless, flatMap-append}
 use Rattle.record.specs.Bits.{bits}
 use Rattle.record.specs.Layout.{hoursBits, leafBits, kindBit, moreChildren, hoursOf, treeBits, forestBits}
-use Rattle.record.specs.Tokens.{groupToken, tokens, forestTokens, fieldBits}
+use Rattle.record.specs.Tokens.{groupToken, tokens, forestTokens, fieldBits, nodeRoom}
 use Rattle.record.proofs.Fields.{length-bits, bits-cons}
-use Rattle.record.proofs.Sizes.{groups-lt, forest-groups, kind-below, Small, small-left, small-right}
+use Rattle.record.proofs.Sizes.{groups-lt, forest-groups, kind-below, length-leaves, Small, small-left, small-right}
 
 -- a token is a leaf and its hours, or a 1 and a byte
 module _ (hours : List ℕ) (x : ℕ) where
@@ -89,3 +90,40 @@ mutual
   forest-tokens-length (last t) = tokens-length t
   forest-tokens-length (more t f) =
       both (tokens t) (forestTokens f) (leaves t) (forestLeaves f) (groups t) (forestGroups f) (tokens-length t) (forest-tokens-length f)
+
+pub tokens-few : (n : ℕ) (t : Tree) → n ≤ 128 → Spans n t → length (tokens t) ≤ nodeRoom
+tokens-few n t few spans = omega (arith, tokens-length t, groups-lt t, length-leaves n t spans)
+
+-- each is a leaf's, or a group's in 9 bits; so is the 0 after them
+
+abbrev pub IsToken : ℕ → Type 0
+IsToken x = (x < 128) ⊎ ((256 ≤ x) × (x < 512))
+
+abbrev pub AllTokens : List ℕ → Type 0
+AllTokens xs = (i : ℕ) → IsToken (getD xs i 0)
+
+first-and : (x : ℕ) (xs : List ℕ) → IsToken x → AllTokens xs → AllTokens (x ∷ xs)
+first-and x xs p q zero = p
+first-and x xs p q (suc i) = q i
+
+all-both : (xs ys : List ℕ) → AllTokens xs → AllTokens ys → AllTokens (xs ++ ys)
+all-both [] ys p q i = q i
+all-both (x ∷ xs) ys p q zero = p 0
+all-both (x ∷ xs) ys p q (suc i) = all-both xs ys (λ j. p (suc j)) q i
+
+mutual
+  unfolding leaves
+
+  pub tokens-are : (t : Tree) → Small (leaves t) → AllTokens (tokens t)
+  tokens-are (leaf j) h = first-and j [] (inl (h .0 j (List·Memᴰ·head refl))) (λ i. inl (omega arith))
+  tokens-are (node k t f) h =
+      first-and (groupToken k (moreChildren f)) (tokens t ++ forestTokens f)
+      (inr (omega (arith, kind-below k, children-few t f h)))
+      (all-both (tokens t) (forestTokens f)
+      (tokens-are t (small-left (leaves t) (forestLeaves f) h)) (forest-tokens-are f (small-right (leaves t) (forestLeaves f) h)))
+
+  forest-tokens-are : (f : Forest) → Small (forestLeaves f) → AllTokens (forestTokens f)
+  forest-tokens-are (last t) h = tokens-are t h
+  forest-tokens-are (more t f) h =
+      all-both (tokens t) (forestTokens f)
+      (tokens-are t (small-left (leaves t) (forestLeaves f) h)) (forest-tokens-are f (small-right (leaves t) (forestLeaves f) h))

@@ -17,7 +17,7 @@ use Rattle.record.specs.Layout.{treeBits, layout, recordRoom}
 use Rattle.record.specs.Tokens.{tokens, fieldBits}
 use Rattle.record.proofs.Records.{layout-length}
 use Rattle.record.proofs.Sizes.{groups-lt, length-treeBits, length-leaves, spans-small}
-use Rattle.record.proofs.Tokens.{token-bits, tokens-length}
+use Rattle.record.proofs.Tokens.{token-bits, tokens-few}
 use Rattle.writer.specs.Packing.{Ends}
 use Rattle.writer.specs.Shapes.{shape}
 use Rattle.writer.specs.Written.{filled, written}
@@ -53,7 +53,7 @@ module _ (n : ℕ) (few : n ≤ 128) (r : Rel) (strict : Strict n r) (t : Tree) 
     count-is = ap (λ (s : Shape). s .count) is
 
     pub count-fits : s .count ≤ 256
-    count-fits = omega (arith, count-is, tokens-length t, groups-lt t, length-leaves n t spans)
+    count-fits = omega (arith, count-is, tokens-few n t few spans)
 
     pub fields-size : length (s .fields) ≡ 256
     fields-size =
