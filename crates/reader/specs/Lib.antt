@@ -2,4 +2,5 @@
 pub mod Fields
 pub mod Nodes
 pub mod Parts
+pub mod Whole
 pub mod Answer

@@ -11,6 +11,8 @@ use listing::list_nodes;
 use nodes::field;
 use nodes::filled;
 use nodes::wide;
+use parts::Part;
+use parts::refused;
 use record::NODE_ROOM;
 use record::RECORD_ROOM;
 ghost use mathlib.Core.Path.{_≡_};
@@ -20,6 +22,7 @@ ghost use Rattle.record.specs.Bits.{AllBelow};
 ghost use Rattle.record.specs.Decode.{decode};
 ghost use Rattle.reader.specs.Answer.{reading, nodes};
 ghost use Rattle.reader.specs.Parts.{walk};
+ghost use Rattle.reader.specs.Whole.{Blank, WholeRead};
 ghost use Rattle.poset.specs.Areas.{padded};
 
 // ok: whether the bytes are a record. Then the job count, the number of groups, the sequences and the hours of each job, whose
@@ -60,38 +63,50 @@ fn in_turn(next: &[u8; 128], first: usize, count: usize) -> [u8; 128]
     jobs
 }
 
+// Whether the bytes are a record, as the part that its tree is; then the lists, lent as zeros, are filled: the forward sequence, the next
+// jobs of the reverse one, the hours.
+fn read_whole(
+    bytes: &[u8],
+    forward: &mut [u8; 128],
+    next: &mut [u8; 128],
+    hours: &mut [u16; 128],
+) -> Part
+    requires { ⌜ Blank (now forward) (now next) (now hours) ⌝ }
+    ensures { λ r. ⌜ WholeRead (now (bytes .entry)) (now (forward .exit)) (now (next .exit)) (now (hours .exit)) r ⌝ }
+{
+    if bytes.len() == 0 {
+        return refused();
+    }
+    if bytes.len() > RECORD_ROOM {
+        return refused();
+    }
+    let count = field(bytes, 0, 7) + 1;
+    let mut seen = [0u8; 128];
+    let part = tree(bytes, count as u8, &mut seen, forward, next, hours);
+    if !part.ok {
+        return part;
+    }
+    if part.done as usize != count {
+        return refused();
+    }
+    if !filled(bytes, place(part.done, part.groups)) {
+        return refused();
+    }
+    part
+}
+
 // Reads a record: `bytes` is any slice.
 pub fn read_record(bytes: &[u8]) -> Reading
     ensures { λ r. ⌜ r ≡ reading (decode (now (bytes .entry))) ⌝ }
 {
-    if bytes.len() == 0 {
-        return no_record();
-    }
-    if bytes.len() > RECORD_ROOM {
-        return no_record();
-    }
-    let count = field(bytes, 0, 7) + 1;
-    let mut seen = [0u8; 128];
     let mut forward = [0u8; 128];
     let mut next = [0u8; 128];
     let mut hours = [0u16; 128];
-    let part = tree(
-        bytes,
-        count as u8,
-        &mut seen,
-        &mut forward,
-        &mut next,
-        &mut hours,
-    );
+    let part = read_whole(bytes, &mut forward, &mut next, &mut hours);
     if !part.ok {
         return no_record();
     }
-    if part.done as usize != count {
-        return no_record();
-    }
-    if !filled(bytes, place(part.done, part.groups)) {
-        return no_record();
-    }
+    let count = part.done as usize;
     let reverse = in_turn(&next, part.first as usize, count);
     Reading {
         ok: true,
@@ -129,16 +144,19 @@ fn no_nodes() -> NodeList
 pub fn read_nodes(bytes: &[u8]) -> NodeList
     ensures { λ r. ⌜ r ≡ nodes (decode (now (bytes .entry))) ⌝ }
 {
-    let read = read_record(bytes);
-    if !read.ok {
+    let mut forward = [0u8; 128];
+    let mut next = [0u8; 128];
+    let mut hours = [0u16; 128];
+    let part = read_whole(bytes, &mut forward, &mut next, &mut hours);
+    if !part.ok {
         return no_nodes();
     }
-    let count = read.count + read.groups;
+    let jobs = part.done as usize;
+    let count = jobs + part.groups as usize;
     let tokens = list_nodes(bytes, count);
-    let hours = read.hours;
     NodeList {
         ok: true,
-        jobs: read.count,
+        jobs: jobs,
         count: count,
         tokens: tokens,
         hours: hours,
