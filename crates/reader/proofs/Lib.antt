@@ -10,9 +10,12 @@ pub mod Refusals
 pub mod Child
 pub mod Children
 pub mod Calls
+pub mod Written
 pub mod Walks
 pub mod Later
 pub mod Sequences
 pub mod Hours
 pub mod Realized
 pub mod Whole
+pub mod Listed
+pub mod Gives

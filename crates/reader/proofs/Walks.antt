@@ -1,15 +1,16 @@
 -- The reverse sequence, walked from its first job.
 use Prim.Native.Nat.{ℕ, zero, suc, _+_, _-_, _≤_, _<_}
-use mathlib.Core.Path.{_≡_, refl, sym, ap, ap₂, _∙_}
+use mathlib.Core.Path.{_≡_, refl, sym, ap, _∙_}
 use mathlib.Core.List.{List, [], _∷_, _++_}
 use native.Mathlib.Nat.{sub-zero}
 use native.Mathlib.Omega.{arith}
 use lib.ListN.{length, getD, set, take, drop, replicate}
-use lib.Seq.{drop-cons, take-suc, getD-drop, set-at, append-snoc, length-take-le, take-all}
+use lib.Seq.{drop-cons, getD-drop}
 use Rattle.record.specs.Bits.{AllBelow}
 use Rattle.record.proofs.Below.{below-head, below-tail}
 use Rattle.reader.specs.Parts.{Strand, alone, followed, walk}
 use Rattle.poset.specs.Areas.{padded}
+use Rattle.reader.proofs.Written.{written-all, written-more}
 
 pub strand-walk : {next xs : List ℕ} {a b : ℕ} → Strand next a xs b → walk next (length xs) a ≡ xs
 unfolding walk
@@ -38,11 +39,7 @@ module _ (next : List ℕ) (first count : ℕ) where
 
   module _ (i job : ℕ) (jobs : List ℕ) (w : Walked next first count i job jobs) (small : count ≤ 128) where
     pub walked-all : count ≤ i → jobs ≡ padded (walk next count first)
-    walked-all l =
-        let ws : List ℕ = walk next count first in
-        let size : length ws ≡ count = length-walk next count first in
-        let done : i ≡ length ws = omega (arith, w .inside) in
-        w .written ∙ ap₂ (λ (a b : List ℕ). a ++ b) (take-all i ws (omega arith)) (ap (λ (k : ℕ). replicate (128 - k) 0) done)
+    walked-all l = written-all 128 (walk next count first) i jobs (w .written) (omega (arith, w .inside, length-walk next count first))
 
     module _ (l : i < count) where
       here : drop i (walk next count first) ≡ job ∷ walk next (count - (i + 1)) (getD next job 0)
@@ -60,19 +57,12 @@ module _ (next : List ℕ) (first count : ℕ) where
       pub walked-more : Walked next first count (i + 1) (getD next job 0) (set jobs i job)
       walked-more =
           let ws : List ℕ = walk next count first in
-          let size : length ws ≡ count = length-walk next count first in
+          let inside : i < length ws = omega (arith, length-walk next count first) in
           let one : i + 1 ≡ suc i = omega arith in
-          let spare : 128 - i ≡ suc (128 - (i + 1)) = omega arith in
-          let parted : jobs ≡ take i ws ++ 0 ∷ replicate (128 - (i + 1)) 0 = w .written ∙ ap (λ (k : ℕ). take i ws ++ replicate k 0) spare in
           let after : drop (suc i) ws ≡ walk next (count - (i + 1)) (getD next job 0) =
-          ap (drop 1) (sym (drop-cons ws i 0 (omega arith)) ∙ here) in
+          ap (drop 1) (sym (drop-cons ws i 0 inside) ∙ here) in
           record {
             inside = omega arith;
-            written =
-                ap (λ (l : List ℕ). set l i job) parted
-                ∙ set-at (take i ws) 0 (replicate (128 - (i + 1)) 0) job i (length-take-le i ws (omega arith))
-                ∙ sym (append-snoc (take i ws) job (replicate (128 - (i + 1)) 0))
-                ∙ ap (λ (l : List ℕ). l ++ replicate (128 - (i + 1)) 0)
-                (ap (λ (j : ℕ). take i ws ++ j ∷ []) (sym at-here) ∙ sym (take-suc ws i 0 (omega arith)) ∙ ap (λ (k : ℕ). take k ws) (sym one));
+            written = written-more 128 ws i jobs (w .written) inside (omega arith) job at-here;
             come = ap (λ (k : ℕ). drop k ws) one ∙ after;
           }

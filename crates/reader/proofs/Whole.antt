@@ -1,15 +1,15 @@
 -- A record as a whole: the job count, the tree, and the bits left over.
 use Prim.Native.Nat.{ℕ, suc, _+_, _-_, _*_, _^_, _≤_, _<_}
-use mathlib.Core.Path.{_≡_, refl, sym, ap, ap₂, subst, _∙_}
+use mathlib.Core.Path.{_≡_, sym, ap, ap₂, subst, _∙_}
 use mathlib.Core.List.{List, _++_, List·Memᴰ·head, List·Memᴰ·tail}
 use mathlib.Core.Bool.{true, false}
-use mathlib.Core.Option.{none}
+use mathlib.Core.Option.{some}
 use native.Mathlib.Omega.{arith}
 use lib.ListN.{length, getD, take, drop, replicate, length-append, length-replicate, getD-replicate}
 use lib.Seq.{drop-at}
 use mir.Syntax.{w8}
 use mir.Val.{Fits}
-use Rattle.poset.specs.Tree.{Tree, leaves, reversed, groups}
+use Rattle.poset.specs.Tree.{Tree, leaves, reversed}
 use Rattle.poset.proofs.Laws.{clash}
 use Rattle.poset.proofs.Canonical.{canon, canon-canonical}
 use Rattle.poset.proofs.Meaning.{spans-holds}
@@ -24,10 +24,9 @@ use Rattle.record.proofs.Records.{layout-filled}
 use Rattle.record.proofs.Theorems.{decode-record, decode-none, layout-length}
 use Rattle.reader.specs.Fields.{At, FieldAt}
 use Rattle.reader.specs.Parts.{Lists, walk, place, Ready, Free, Found, Plain, ofTree}
-use Rattle.reader.specs.Answer.{reading}
+use Rattle.reader.specs.Whole.{Blank, Holds, WholeRead}
 use Rattle.poset.specs.Areas.{padded}
 use Rattle.reader.specs.declared.parts.Part.{Part}
-use Rattle.reader.specs.declared.Reading.{Reading}
 use Rattle.reader.proofs.Positions.{at-of, at-left, at-right, at-join, at-same, bits-injective}
 use Rattle.reader.proofs.Marks.{free-small}
 use Rattle.reader.proofs.Inversion.{one-tree}
@@ -44,12 +43,12 @@ pub slice-below : (bytes : List ℕ) → ((i : ℕ) → Fits w8 (getD bytes i 0)
 slice-below bytes fit = all-below 256 bytes (λ i. fit i .fits)
 
 -- what the bits of a record are
-record Spelt (bytes : List ℕ) (n : ℕ) (t : Tree) (hours : List ℕ) : Type 0 where
-  count-at : At (bitsOf bytes) 0 (bits 7 (n - 1))
-  tree-at : At (bitsOf bytes) 7 (treeBits hours t)
-  rest : fills (drop (7 + length (treeBits hours t)) (bitsOf bytes)) ≡ true
+pub record Spelt (bytes : List ℕ) (n : ℕ) (t : Tree) (hours : List ℕ) : Type 0 where
+  pub count-at : At (bitsOf bytes) 0 (bits 7 (n - 1))
+  pub tree-at : At (bitsOf bytes) 7 (treeBits hours t)
+  pub rest : fills (drop (7 + length (treeBits hours t)) (bitsOf bytes)) ≡ true
 
-record-spelt : (bytes : List ℕ) (n : ℕ) (t : Tree) (hours : List ℕ) → IsRecord bytes n t hours → Spelt bytes n t hours
+pub record-spelt : (bytes : List ℕ) (n : ℕ) (t : Tree) (hours : List ℕ) → IsRecord bytes n t hours → Spelt bytes n t hours
 record-spelt bytes n t hours r =
     let f = layout-filled n hours t in
     let head : List ℕ = bits 7 (n - 1) in
@@ -72,9 +71,10 @@ abbrev NoRecord : List ℕ → Type 0
 NoRecord bytes = (n : ℕ) (t : Tree) (hours : List ℕ) → IsRecord bytes n t hours → ⊥
 
 -- the readers are given lists of zeros
-pub ready-first : (bytes : List ℕ) (m : ℕ) → length bytes ≤ recordRoom → FieldAt (bitsOf bytes) 0 7 m
-    → Ready bytes (m + 1) 0 0 (replicate 128 0) (replicate 128 0) (replicate 128 0)
-ready-first bytes m short count =
+pub ready-first
+    : (bytes : List ℕ) (m : ℕ) → length bytes ≤ recordRoom → FieldAt (bitsOf bytes) 0 7 m → (forward next hours : List ℕ) → Blank forward next hours
+    → Ready bytes (m + 1) 0 0 (replicate 128 0) next hours
+ready-first bytes m short count forward next hours blank =
     let small : m < 128 = count .small in
     record {
       short = short;
@@ -82,9 +82,11 @@ ready-first bytes m short count =
       named = omega arith;
       opened = omega arith;
       marks = length-replicate {A = ℕ} 128 0;
-      links = length-replicate {A = ℕ} 128 0;
-      entries = length-replicate {A = ℕ} 128 0;
-      low = all-below (2 ^ hoursBits) (replicate 128 0) (λ i. omega (arith, zeros-at 128 i));
+      links = ap length (blank .next-is) ∙ length-replicate {A = ℕ} 128 0;
+      entries = ap length (blank .hours-is) ∙ length-replicate {A = ℕ} 128 0;
+      low =
+          all-below (2 ^ hoursBits) hours
+          (λ i. omega (arith, ap (λ (l : List ℕ). getD l i 0) (blank .hours-is), zeros-at 128 i));
     }
 
 -- no record is empty, or too long
@@ -95,13 +97,14 @@ none-empty bytes e n t hours r = omega (arith, record-spelt bytes n t hours r .c
 pub none-long : (bytes : List ℕ) → recordRoom < length bytes → NoRecord bytes
 none-long bytes l n t hours r = omega (arith, ap length (r .spelt), layout-length n hours t (r .most) (r .spans) .2)
 
--- the lists before any job is named, those of the sequences as they may be
-abbrev begun : List ℕ → List ℕ → Lists
-begun forward next = record { seen = replicate 128 0; forward = forward; next = next; hours = replicate 128 0 }
+-- the lists before any job is named
+abbrev begun : List ℕ → List ℕ → List ℕ → Lists
+begun forward next hours = record { seen = replicate 128 0; forward = forward; next = next; hours = hours }
 
 -- a count, and the tree after it, if one was read
-module _ (bytes : List ℕ) (m : ℕ) (count : FieldAt (bitsOf bytes) 0 7 m) (forward next : List ℕ) (v : Lists) (p : Part)
-    (r : Found ofTree Plain (bitsOf bytes) (m + 1) 0 0 0 (begun forward next) v p) where
+module _ (bytes : List ℕ) (m : ℕ) (count : FieldAt (bitsOf bytes) 0 7 m) (forward next entries : List ℕ)
+    (blank : Blank forward next entries) (v : Lists) (p : Part)
+    (r : Found ofTree Plain (bitsOf bytes) (m + 1) 0 0 0 (begun forward next entries) v p) where
   few : m + 1 ≤ 128
   few = let small : m < 128 = count .small in omega arith
 
@@ -157,7 +160,7 @@ module _ (bytes : List ℕ) (m : ℕ) (count : FieldAt (bitsOf bytes) 0 7 m) (fo
       let size : 7 ≡ 0 + length head = omega (arith, length-bits 7 m) in
       let hours : List ℕ = take (m + 1) (v .hours) in
       let body : List ℕ = treeBits hours t in
-      let spelt : treeBits (v .hours) t ≡ body = hours-spelt t few refl free-t placed in
+      let spelt : treeBits (v .hours) t ≡ body = hours-spelt t few (blank .hours-is) free-t placed in
       let both : At (bitsOf bytes) 0 (head ++ body) =
       at-join head body (count .stands)
       (subst (λ (i : ℕ). At (bitsOf bytes) i body) size (subst (At (bitsOf bytes) 7) spelt (placed .stands))) in
@@ -177,7 +180,7 @@ module _ (bytes : List ℕ) (m : ℕ) (count : FieldAt (bitsOf bytes) 0 7 m) (fo
         most = few;
         spans = length-spans (m + 1) t (plain .1) (free-t .inside) (omega (arith, placed .number));
         plain = canon-canonical t (plain .0);
-        each = hours-each t few refl free-t placed;
+        each = hours-each t few (blank .hours-is) free-t placed;
         small = below-take (m + 1) (v .hours) (placed .low);
         spelt = filled-unique (layout-filled (m + 1) hours t) as-filled;
       }
@@ -185,24 +188,34 @@ module _ (bytes : List ℕ) (m : ℕ) (count : FieldAt (bitsOf bytes) 0 7 m) (fo
   pub tree-within : p .ok ≡ true → place (p .done) (p .groups) ≤ 8 * length bytes
   tree-within ok = omega (arith, r .some ok .3 .end, r .some ok .3 .stands .within, length-bitsOf bytes)
 
-  -- the reverse sequence is walked within the lists
-  pub walk-inside : p .ok ≡ true → p .done ≡ m + 1 → (m + 1 ≤ 128) × AllBelow 128 (walk (v .next) (m + 1) (p .first))
-  walk-inside ok all = let (t, _, free-t, placed) = r .some ok in (few, walk-below t few all free-t placed)
-
-  -- what reading gives
-  pub reads-some : AllBelow 256 bytes → forward ≡ replicate 128 0 → p .ok ≡ true → p .done ≡ m + 1
-      → fills (drop (place (p .done) (p .groups)) (bitsOf bytes)) ≡ true
-      → (reverse : List ℕ) → reverse ≡ padded (walk (v .next) (m + 1) (p .first))
-      → record { ok = true; count = m + 1; groups = p .groups; forward = v .forward; reverse = reverse; hours = v .hours } ≡ reading (decode bytes)
-  reads-some small zeros ok all filled reverse e =
+  -- what was read is the record
+  pub whole-some : AllBelow 256 bytes → p .ok ≡ true → p .done ≡ m + 1 → fills (drop (place (p .done) (p .groups)) (bitsOf bytes)) ≡ true
+      → WholeRead bytes (v .forward) (v .next) (v .hours) p
+  whole-some small ok all filled =
       let (t, _, free-t, placed) = r .some ok in
-      let made : (g : ℕ) (f b h : List ℕ) → Reading = λ g f b h.
-      record { ok = true; count = m + 1; groups = g; forward = f; reverse = b; hours = h } in
-      let back : reverse ≡ padded (reversed t) = e ∙ ap padded (walk-reversed t few all free-t placed) in
-      let groups-are : p .groups ≡ groups t = omega (arith, placed .groups) in
-      ap₂ (λ (g : ℕ) (h : List ℕ). made g (v .forward) reverse h) groups-are (hours-padded t few refl free-t placed)
-      ∙ ap₂ (λ (f b : List ℕ). made (groups t) f b (padded (take (m + 1) (v .hours)))) (forward-leaves t few all free-t placed zeros) back
-      ∙ ap reading (sym (decode-record bytes (m + 1) t (take (m + 1) (v .hours)) small .1 (read-whole small ok all filled)))
+      let Told : ℕ → Type 0 = λ n.
+      (decode bytes ≡ some (n, t, take n (v .hours))) × (n ≤ 128) × (walk (v .next) n (p .first) ≡ reversed t)
+      × AllBelow 128 (walk (v .next) n (p .first)) × (v .hours ≡ padded (take n (v .hours))) in
+      let told : Told (m + 1) = (
+        decode-record bytes (m + 1) t (take (m + 1) (v .hours)) small .1 (read-whole small ok all filled),
+        few,
+        walk-reversed t few all free-t placed,
+        walk-below t few all free-t placed,
+        hours-padded t few (blank .hours-is) free-t placed,
+      ) in
+      let (decoded, most, back, inside, times) = subst Told (sym all) told in
+      let holds : Holds bytes (v .forward) (v .next) (v .hours) p t = record {
+        decoded = decoded;
+        few = most;
+        inner = omega (arith, placed .groups);
+        forth = forward-leaves t few all free-t placed (blank .forward-is);
+        back = back;
+        inside = inside;
+        times = times;
+      } in
+      record { some = λ _. (t, holds); none = λ bad. absurd (clash ok bad) }
 
-pub reads-none : (bytes : List ℕ) (x : Reading) → AllBelow 256 bytes → NoRecord bytes → x ≡ reading none → x ≡ reading (decode bytes)
-reads-none bytes x small h r = r ∙ ap reading (sym (decode-none bytes small .1 h))
+pub whole-none
+    : (bytes forward next hours : List ℕ) (p : Part) → AllBelow 256 bytes → NoRecord bytes → p .ok ≡ false → WholeRead bytes forward next hours p
+whole-none bytes forward next hours p small other bad =
+    record { some = λ ok. absurd (clash ok bad); none = λ _. decode-none bytes small .1 other }

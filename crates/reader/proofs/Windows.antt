@@ -59,13 +59,13 @@ module _ (bytes : List ℕ) (at k m x : ℕ) (s : At (bitsOf bytes) (8 * (at / 8
         small = mod-lt y (pow-pos k);
       }
 
-shl-one : (k : ℕ) → k ≤ 8 → (1 * 2 ^ k) % 2 ^ 64 ≡ 2 ^ k
+shl-one : (k : ℕ) → k ≤ 9 → (1 * 2 ^ k) % 2 ^ 64 ≡ 2 ^ k
 shl-one k h = shl-exact 1 k 64 (omega arith) (omega arith) ∙ omega arith
 
-pub divisor : (k : ℕ) → k ≤ 8 → 0 < (1 * 2 ^ k) % 2 ^ 64
+pub divisor : (k : ℕ) → k ≤ 9 → 0 < (1 * 2 ^ k) % 2 ^ 64
 divisor k h = omega (arith, shl-one k h, pow-pos k)
 
-module _ (bytes : List ℕ) (at k : ℕ) (short : k ≤ 8) (inside : at + k ≤ 8 * length bytes) where
+module _ (bytes : List ℕ) (at k : ℕ) (short : k ≤ 9) (inside : at + k ≤ 8 * length bytes) where
   start : 8 * (at / 8) ≤ length (bitsOf bytes)
   start = omega (arith, length-bitsOf bytes)
 

@@ -1,5 +1,5 @@
 -- Bits by position.
--- For inner contracts alone: who reads the promises of read_record and order_of need not believe it, but specs/Answer.antt. So it may cite
+-- For inner contracts alone: who reads the promises of read_record, read_nodes and order_of need not believe it, but specs/Answer.antt. So it may cite
 -- Small, which is the proofs' form of leaves that fit a record.
 use Prim.Native.Nat.{ℕ, suc, _+_, _≤_, _<_, _^_}
 use mathlib.Core.Path.{_≡_}

@@ -1,5 +1,5 @@
 -- What the readers of a record's parts owe: of a tree, and of the children of a group.
--- For inner contracts alone: who reads the promises of read_record and order_of need not believe it, but specs/Answer.antt. So it may cite
+-- For inner contracts alone: who reads the promises of read_record, read_nodes and order_of need not believe it, but specs/Answer.antt. So it may cite
 -- Once and Canon, which are the proofs' form of what poset's specs/ say by a count and a test.
 use Prim.Native.Nat.{ℕ, zero, suc, _+_, _*_, _^_, _≤_, _<_, min}
 use mathlib.Core.Path.{_≡_}

@@ -21,9 +21,9 @@ pub fn wide(x: u8) -> usize
     x as usize
 }
 
-// The number in the `width` bits from `at` on, of at most 8 bits: two bytes hold them.
+// The number in the `width` bits from `at` on, of at most 9 bits: two bytes hold them.
 pub fn field(bytes: &[u8], at: usize, width: usize) -> usize
-    requires { ⌜ (0 < width) × (width ≤ 8) × (at + width ≤ 8 * length (now bytes)) × (length (now bytes) ≤ recordRoom) ⌝ }
+    requires { ⌜ (0 < width) × (width ≤ 9) × (at + width ≤ 8 * length (now bytes)) × (length (now bytes) ≤ recordRoom) ⌝ }
     ensures { λ r. ⌜ FieldAt (bitsOf (now (bytes .entry))) at width r ⌝ }
 {
     let i = at / 8;

@@ -1,4 +1,5 @@
--- The record of a tree: what a reader must believe.
+-- The record of a tree: what a reader must believe; Tokens is for inner contracts alone.
 pub mod Bits
 pub mod Layout
 pub mod Decode
+pub mod Tokens

@@ -3,6 +3,9 @@
 // No record has more bytes.
 pub const RECORD_ROOM: usize = 464;
 
+// No tree of 128 jobs has more nodes.
+pub const NODE_ROOM: usize = 256;
+
 // The bits of a job's hours.
 pub const HOURS_BITS: usize = 12;
 

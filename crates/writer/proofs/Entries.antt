@@ -13,9 +13,9 @@ use Rattle.poset.proofs.Laws.{decided, and-left}
 use Rattle.poset.proofs.Sums.{length-keep, bit, sum-add}
 use Rattle.relation.specs.Table.{has, members}
 use Rattle.record.specs.Layout.{kindBit}
+use Rattle.record.specs.Tokens.{groupToken}
 use Rattle.writer.specs.Parts.{Walk, Splits, closeOf}
 use Rattle.writer.specs.Stack.{Entry, entries, jobsOf, startAt, spreadOut, groupField}
-use Rattle.writer.specs.Tokens.{groupToken}
 use Rattle.writer.proofs.Worklist.{Pending, spread, total}
 use Rattle.writer.proofs.Groups.{kindOf, members-of}
 

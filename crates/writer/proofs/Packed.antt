@@ -9,11 +9,12 @@ use lib.Seq.{take-suc, take-length, length-take-le}
 use Rattle.poset.proofs.Laws.{flatMap-append}
 use Rattle.record.specs.Bits.{bits, bitsOf}
 use Rattle.record.specs.Layout.{recordRoom}
+use Rattle.record.specs.Tokens.{fieldBits}
 use Rattle.record.proofs.Fields.{length-bits}
 use Rattle.record.proofs.Bytes.{length-bitsOf}
 use Rattle.record.proofs.Below.{below-nil}
 use Rattle.writer.specs.declared.pack.Packing.{Packing}
-use Rattle.writer.specs.Packing.{Holds, Ready, Puts, Ends, fieldBits}
+use Rattle.writer.specs.Packing.{Holds, Ready, Puts, Ends}
 
 module _ (hours : List ℕ) where
   abbrev allBits : List ℕ → List ℕ

@@ -5,17 +5,15 @@ use mathlib.Core.List.{List, [], _∷_, _++_, append-assoc, append-nil}
 use native.Mathlib.Nat.{mod-lt, add-zero}
 use native.Mathlib.Omega.{arith}
 use lib.Arith.{digits-lt}
-use lib.Dec.{ltb}
 use lib.ListN.{length, take, drop, set, replicate, length-set, length-append}
 use lib.Pow.{pow-pos, pow-add, low, mod-pow-add, shl-shr, split}
-use Rattle.poset.proofs.Laws.{lt-true, ltb-true, false-unless}
 use Rattle.record.specs.Bits.{AllBelow, bits, bitsOf, bytesOf}
-use Rattle.record.specs.Layout.{hoursBits, leafBits, hoursOf, recordRoom}
-use Rattle.record.proofs.Fields.{length-bits, bits-mod, bits-append, bits-cons, bits-below}
+use Rattle.record.specs.Layout.{recordRoom}
+use Rattle.record.proofs.Fields.{length-bits, bits-mod, bits-append, bits-below}
 use Rattle.record.proofs.Bytes.{Filled, bits-zero, bitsOf-below, bytes-filled, filled-unique}
 use Rattle.record.proofs.Below.{below-nil, below-cons, below-append}
 use Rattle.writer.specs.declared.pack.Packing.{Packing}
-use Rattle.writer.specs.Packing.{Holds, Ready, Takes, Moves, Puts, Ends, fieldBits}
+use Rattle.writer.specs.Packing.{Holds, Ready, Takes, Moves, Puts, Ends}
 use Rattle.writer.proofs.Stores.{stored, blank-next, whole-list}
 
 pub bitsOf-append : (xs ys : List ℕ) → bitsOf (xs ++ ys) ≡ bitsOf xs ++ bitsOf ys
@@ -162,33 +160,6 @@ module _ {these bytes bytes′ bytes″ : List ℕ} {p q r s : Packing} (t : Tak
 pub moves-both
     : {bytes bytes′ bytes″ : List ℕ} {p q r : Packing} → Moves bytes p bytes′ q → Puts [] bytes′ q bytes″ r → Puts [] bytes p bytes″ r
 moves-both m n = record { held = λ bs h. n .held bs (m .held bs h); few = n .few }
-
--- a field is a leaf and its hours, or a 1 and a byte
-module _ (hours : List ℕ) (x : ℕ) where
-  pub leaf-is : x < 128 → fieldBits hours x ≡ bits 8 x ++ bits hoursBits (hoursOf hours x)
-  unfolding fieldBits
-  leaf-is h = rw (lt-true x 128 h, fieldBits)
-
-  pub group-is : 128 ≤ x → fieldBits hours x ≡ 1 ∷ bits 8 (x % 256)
-  unfolding fieldBits
-  group-is h = rw (false-unless (ltb x 128) (λ e. omega (arith, ltb-true x 128 e)), fieldBits)
-
-  pub group-bits : 128 ≤ x → bits 9 (256 + x % 256) ≡ fieldBits hours x
-  group-bits h = bits-cons 8 1 (x % 256) (omega arith) (omega arith) ∙ sym (group-is h)
-
-  pub leaf-length : x < 128 → length (fieldBits hours x) ≡ leafBits
-  leaf-length h =
-      omega (
-        arith,
-        ap length (leaf-is h),
-        length-append (bits 8 x) (bits hoursBits (hoursOf hours x)),
-        length-bits 8 x,
-        length-bits hoursBits (hoursOf hours x),
-      )
-
-  pub group-length : 128 ≤ x → length (fieldBits hours x) ≡ 9
-  group-length h =
-      omega (arith, ap length (group-bits h), length-bits 9 (256 + x % 256))
 
 -- the bits in hand with zeros after them are the last byte
 

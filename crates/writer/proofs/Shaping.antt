@@ -18,10 +18,11 @@ use Rattle.poset.proofs.Sums.{length-below}
 use Rattle.poset.proofs.Telling.{tells-means}
 use Rattle.poset.proofs.Theorems.{tree-of-means, tree-of-sound, tree-has-no-n}
 use Rattle.relation.specs.Table.{members}
+use Rattle.record.specs.Tokens.{groupToken, tokens}
 use Rattle.writer.specs.declared.tree.Progress.{Progress}
 use Rattle.writer.specs.Parts.{Splits, Cut, closeOf}
+use Rattle.writer.specs.Shapes.{shape, shaped}
 use Rattle.writer.specs.Stack.{Entry, Stacks, entries, entryAt, jobsOf, spreadOut, opened, Opens, groupField}
-use Rattle.writer.specs.Tokens.{groupToken, tokens, shape, shaped}
 use Rattle.writer.proofs.Stores.{stored, blank-stored, whole-list}
 use Rattle.writer.proofs.Worklist.{Todo, spread, todo-leaf, todo-group, todo-none, todo-all, GroupOf}
 use Rattle.writer.proofs.Groups.{kindOf, Alike, splits-group}

@@ -1,78 +1,28 @@
--- The fields of a tree are its bits.
-use Prim.Native.Nat.{ℕ, _+_, _*_, _-_, _%_, _^_, _≤_, _<_}
-use mathlib.Core.Path.{_≡_, refl, sym, ap, ap₂, _∙_}
-use mathlib.Core.List.{List, _∷_, _++_, flatMap, append-nil, List·Memᴰ·head}
+-- The fields of a tree are packed to its record.
+use Prim.Native.Nat.{ℕ, _+_, _*_, _-_, _≤_}
+use mathlib.Core.Path.{_≡_, refl, sym, ap, _∙_}
+use mathlib.Core.List.{List, _++_, flatMap}
 use mathlib.Core.Bool.{Bool, true, false}
 use mathlib.Core.Option.{Option, none, some}
 use native.Mathlib.Omega.{arith}
 use lib.ListN.{length, take, replicate, length-append, length-replicate}
 use lib.Seq.{take-at}
 use Rattle.poset.specs.Order.{Rel, Strict}
-use Rattle.poset.specs.Tree.{Kind, Tree, leaf, node, Forest, last, more, leaves, forestLeaves, groups, forestGroups, Spans}
+use Rattle.poset.specs.Tree.{Tree, Spans}
 use Rattle.poset.specs.Decompose.{treeOf}
-use Rattle.poset.proofs.Laws.{clash, flatMap-append}
+use Rattle.poset.proofs.Laws.{clash}
 use Rattle.poset.proofs.Theorems.{tree-of-sound}
 use Rattle.record.specs.Bits.{bits, bytesOf}
-use Rattle.record.specs.Layout.{hoursBits, kindBit, moreChildren, hoursOf, treeBits, forestBits, layout, recordRoom}
-use Rattle.record.proofs.Fields.{bits-cons}
+use Rattle.record.specs.Layout.{treeBits, layout, recordRoom}
+use Rattle.record.specs.Tokens.{tokens, fieldBits}
 use Rattle.record.proofs.Records.{layout-length}
-use Rattle.record.proofs.Sizes.{groups-lt, forest-groups, kind-below, length-treeBits, length-leaves, Small, small-left, small-right, spans-small}
-use Rattle.writer.specs.Packing.{fieldBits, Ends}
-use Rattle.writer.specs.Tokens.{groupToken, tokens, forestTokens, shape}
+use Rattle.record.proofs.Sizes.{groups-lt, length-treeBits, length-leaves, spans-small}
+use Rattle.record.proofs.Tokens.{token-bits, tokens-few}
+use Rattle.writer.specs.Packing.{Ends}
+use Rattle.writer.specs.Shapes.{shape}
 use Rattle.writer.specs.Written.{filled, written}
 use Rattle.writer.specs.declared.tree.Shape.{Shape}
 use Rattle.writer.specs.declared.writing.Written.{Written}
-use Rattle.writer.proofs.Packs.{leaf-is, group-is}
-
-module _ (hours : List ℕ) where
-  leaf-token : (j : ℕ) → j < 128 → fieldBits hours j ≡ 0 ∷ bits 7 j ++ bits hoursBits (hoursOf hours j)
-  leaf-token j l =
-      let e : j ≡ 0 * 2 ^ 7 + j = omega arith in
-      leaf-is hours j l ∙ ap (λ x. x ++ bits hoursBits (hoursOf hours j)) (ap (bits 8) e ∙ bits-cons 7 0 j (omega arith) (omega arith))
-
-  group-token : (k : Kind) (m : ℕ) → m < 128 → fieldBits hours (groupToken k m) ≡ 1 ∷ kindBit k ∷ bits 7 m
-  group-token k m l =
-      let e : groupToken k m % 256 ≡ kindBit k * 2 ^ 7 + m = omega (arith, kind-below k) in
-      group-is hours (groupToken k m) (omega arith) ∙ ap (λ l. 1 ∷ l) (ap (bits 8) e ∙ bits-cons 7 (kindBit k) m (kind-below k) (omega arith))
-
--- a group has at most 128 children
-children-few : (t : Tree) (f : Forest) → Small (leaves t ++ forestLeaves f) → moreChildren f < 128
-children-few t f h = omega (arith, h .1, length-append (leaves t) (forestLeaves f), groups-lt t, forest-groups f)
-
-module _ (hours : List ℕ) where
-  mutual
-    unfolding leaves treeBits flatMap
-
-    pub token-bits : (t : Tree) → Small (leaves t) → flatMap (fieldBits hours) (tokens t) ≡ treeBits hours t
-    token-bits (leaf j) h = append-nil (fieldBits hours j) ∙ leaf-token hours j (h .0 j (List·Memᴰ·head refl))
-    token-bits (node k t f) h =
-        ap₂ _++_ (group-token hours k (moreChildren f) (children-few t f h))
-        (flatMap-append (fieldBits hours) (tokens t) (forestTokens f)
-        ∙ ap₂ _++_ (token-bits t (small-left (leaves t) (forestLeaves f) h)) (forest-token-bits f (small-right (leaves t) (forestLeaves f) h)))
-
-    forest-token-bits : (f : Forest) → Small (forestLeaves f) → flatMap (fieldBits hours) (forestTokens f) ≡ forestBits hours f
-    forest-token-bits (last t) h = token-bits t h
-    forest-token-bits (more t f) h =
-        flatMap-append (fieldBits hours) (tokens t) (forestTokens f)
-        ∙ ap₂ _++_ (token-bits t (small-left (leaves t) (forestLeaves f) h)) (forest-token-bits f (small-right (leaves t) (forestLeaves f) h))
-
--- a field for each leaf and group
-
-both : (xs ys ls ms : List ℕ) (g h : ℕ) → length xs ≡ length ls + g → length ys ≡ length ms + h → length (xs ++ ys) ≡ length (ls ++ ms) + (g + h)
-both xs ys ls ms g h p q = omega (arith, p, q, length-append xs ys, length-append ls ms)
-
-mutual
-  unfolding leaves groups
-
-  tokens-length : (t : Tree) → length (tokens t) ≡ length (leaves t) + groups t
-  tokens-length (leaf j) = refl
-  tokens-length (node k t f) =
-      omega (arith, both (tokens t) (forestTokens f) (leaves t) (forestLeaves f) (groups t) (forestGroups f) (tokens-length t) (forest-tokens-length f))
-
-  forest-tokens-length : (f : Forest) → length (forestTokens f) ≡ length (forestLeaves f) + forestGroups f
-  forest-tokens-length (last t) = tokens-length t
-  forest-tokens-length (more t f) =
-      both (tokens t) (forestTokens f) (leaves t) (forestLeaves f) (groups t) (forestGroups f) (tokens-length t) (forest-tokens-length f)
 
 -- what packing asks of the fields of an order's tree, and what it gives
 pub record Spells (hours : List ℕ) (t : Tree) (fields : List ℕ) : Type 0 where
@@ -103,7 +53,7 @@ module _ (n : ℕ) (few : n ≤ 128) (r : Rel) (strict : Strict n r) (t : Tree) 
     count-is = ap (λ (s : Shape). s .count) is
 
     pub count-fits : s .count ≤ 256
-    count-fits = omega (arith, count-is, tokens-length t, groups-lt t, length-leaves n t spans)
+    count-fits = omega (arith, count-is, tokens-few n t few spans)
 
     pub fields-size : length (s .fields) ≡ 256
     fields-size =

@@ -28,7 +28,7 @@ use Rattle.poset.proofs.Decomposition.{below-sorted}
 use Rattle.poset.proofs.Telling.{Tells, TellsForest, later-ordered, tells-leaf, tells-last, tells-more, tells-node}
 use Rattle.writer.proofs.Stores.{sets-append, sets-comm, same-counts-length}
 use Rattle.record.specs.Layout.{moreChildren}
-use Rattle.writer.specs.Tokens.{tokens, forestTokens, groupToken}
+use Rattle.record.specs.Tokens.{groupToken, tokens, forestTokens}
 
 -- a block still to be made, and where its jobs begin in the reverse sequence
 pub record Pending : Type 0 where

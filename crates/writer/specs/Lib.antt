@@ -1,5 +1,5 @@
 pub mod Packing
 pub mod Parts
+pub mod Shapes
 pub mod Stack
-pub mod Tokens
 pub mod Written

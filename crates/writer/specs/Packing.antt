@@ -1,19 +1,13 @@
 -- Fields of bits as bytes, and what a packing holds.
 -- An inner contract: who reads the promise of write_record need not believe it, but specs/Written.antt alone.
-use Prim.Native.Nat.{ℕ, _+_, _*_, _-_, _%_, _≤_, _<_}
+use Prim.Native.Nat.{ℕ, _+_, _*_, _-_, _≤_, _<_}
 use mathlib.Core.Path.{_≡_}
-use mathlib.Core.List.{List, _∷_, _++_}
-use mathlib.Core.Bool.{true, false}
-use lib.Dec.{ltb}
+use mathlib.Core.List.{List, _++_}
 use lib.ListN.{length, take, drop, replicate}
 use Rattle.record.specs.Bits.{AllBelow, bits, bitsOf, bytesOf}
-use Rattle.record.specs.Layout.{hoursBits, hoursOf, recordRoom}
+use Rattle.record.specs.Layout.{recordRoom}
 use Rattle.writer.specs.Written.{filled}
 use Rattle.writer.specs.declared.pack.Packing.{Packing}
-
--- a leaf is its job in 8 bits, and the job's hours; a group, 256 and more, is a 1 and 8 bits
-unfoldable pub fieldBits : List ℕ → ℕ → List ℕ
-fieldBits hours x = elim (ltb x 128) [ true ↦ bits 8 x ++ bits hoursBits (hoursOf hours x) | false ↦ 1 ∷ bits 8 (x % 256) ]
 
 -- fewer than 8 bits are in hand, and there is room for so many more
 pub record Ready (p : Packing) (more : ℕ) : Type 0 where

@@ -5,7 +5,8 @@ ghost use Prim.Native.Nat.{ℕ, _+_, _*_, _-_, _<_, _≤_, _^_};
 ghost use lib.ListN.{length};
 ghost use Rattle.record.specs.Bits.{AllBelow, bits};
 ghost use Rattle.record.specs.Layout.{hoursBits, recordRoom};
-ghost use Rattle.writer.specs.Packing.{Holds, Ready, Takes, Moves, Puts, fieldBits, Ends};
+ghost use Rattle.record.specs.Tokens.{fieldBits};
+ghost use Rattle.writer.specs.Packing.{Holds, Ready, Takes, Moves, Puts, Ends};
 
 // So many whole bytes, and some bits more in hand: the last ones of a value.
 pub struct Packing {

@@ -10,7 +10,7 @@ ghost use lib.ListN.{length, take, getD, set};
 ghost use Rattle.relation.specs.Table.{members, holds, Inside};
 ghost use Rattle.poset.specs.Order.{Strict};
 ghost use Rattle.poset.specs.Decompose.{treeOf};
-ghost use Rattle.writer.specs.Tokens.{noShape, shape, shaped};
+ghost use Rattle.writer.specs.Shapes.{noShape, shape, shaped};
 ghost use Rattle.writer.specs.Parts.{Jobs, Partial, Cut, Numbered, closeOf};
 ghost use Rattle.writer.specs.Stack.{entries, jobsOf, spreadOut, startAt, Stacks, groupField, lead, entryAt, Opens, opened, FirstEntry};
 

@@ -4,7 +4,8 @@ use Prim.Native.Nat.{_-_}
 use lib.ListN.{length}
 use Rattle.writer.proofs.Packed.{SoFar, start, next, ready, ready-for-field, done}
 use mathlib.Core.Path.{sym, subst}
-use Rattle.writer.specs.Packing.{Ready, Puts, fieldBits}
+use Rattle.record.specs.Tokens.{fieldBits}
+use Rattle.writer.specs.Packing.{Ready, Puts}
 use Rattle.writer.proofs.pack.pack.Statement.{statement}
 use Rattle.writer.proofs.pack.pack.Tie as tie
 

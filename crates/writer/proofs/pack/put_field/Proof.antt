@@ -6,10 +6,12 @@ use mathlib.Core.Path.{ap, sym, subst, _∙_}
 use mathlib.Core.List.{_++_}
 use Rattle.record.specs.Bits.{bits}
 use Rattle.record.specs.Layout.{hoursBits, leafBits, recordRoom}
+use Rattle.record.specs.Tokens.{fieldBits}
 use Rattle.record.proofs.Fields.{length-bits}
 use Rattle.record.proofs.Entries.{entry-below}
-use Rattle.writer.specs.Packing.{Takes, fieldBits}
-use Rattle.writer.proofs.Packs.{leaf-is, group-bits, leaf-length, group-length, takes-both, takes-room, puts-after, moves-both}
+use Rattle.record.proofs.Tokens.{leaf-is, group-bits, leaf-length, group-length}
+use Rattle.writer.specs.Packing.{Takes}
+use Rattle.writer.proofs.Packs.{takes-both, takes-room, puts-after, moves-both}
 use Rattle.writer.proofs.pack.put_field.Statement.{statement}
 use Rattle.writer.proofs.pack.put_field.Tie as tie
 

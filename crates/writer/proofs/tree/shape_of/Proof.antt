@@ -15,7 +15,7 @@ use Rattle.relation.specs.Table.{members, holds}
 use Rattle.writer.specs.declared.tree.Progress.{Progress}
 use Rattle.writer.specs.Parts.{Cut, closeOf}
 use Rattle.writer.specs.Stack.{entryAt, lead, groupField}
-use Rattle.writer.specs.Tokens.{shape}
+use Rattle.writer.specs.Shapes.{shape}
 use Rattle.writer.proofs.Leads.{lead-member, single}
 use Rattle.writer.proofs.Entries.{EntryOk}
 use Rattle.writer.proofs.Stacking.{stacks-lower}

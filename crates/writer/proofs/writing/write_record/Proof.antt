@@ -11,7 +11,7 @@ use Rattle.poset.proofs.Laws.{not-true}
 use Rattle.relation.specs.Table.{holds}
 use native.Mathlib.Omega.{arith}
 use Rattle.writer.proofs.Spelling.{shape-told, count-fits, fields-size, spells, wrote}
-use Rattle.writer.specs.Tokens.{shape}
+use Rattle.writer.specs.Shapes.{shape}
 use Rattle.writer.specs.Written.{written}
 use Rattle.writer.specs.declared.tree.Shape.{Shape}
 use Rattle.writer.proofs.writing.write_record.Statement.{statement}
