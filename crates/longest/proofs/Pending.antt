@@ -8,7 +8,7 @@ use Rattle.poset.specs.Lists.{occurrences}
 use Rattle.poset.specs.Tree.{Kind, Tree, leaf, node, Forest, last, more, leaves, forestLeaves}
 use Rattle.poset.proofs.Laws.{count-append, flatMap-append}
 use Rattle.record.proofs.Sizes.{Small, small-right}
-use Rattle.longest.specs.Tokens.{tokens, forestTokens}
+use Rattle.record.specs.Tokens.{tokens, forestTokens}
 use Rattle.longest.specs.Longest.{trees}
 use Rattle.longest.specs.Stack.{Step, one-leaf, one-group, Fits}
 use Rattle.longest.proofs.Stacking.{trees-leaves}

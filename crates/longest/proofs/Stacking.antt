@@ -13,7 +13,7 @@ use Rattle.record.specs.Layout.{hoursBits, mostHours, kindBit, moreChildren, ho
 use Rattle.record.proofs.Below.{below-append}
 use Rattle.record.proofs.Sizes.{Small, small-right, kind-below, groups-lt}
 use Rattle.reader.specs.Parts.{Strand, alone}
-use Rattle.longest.specs.Tokens.{groupToken}
+use Rattle.record.specs.Tokens.{groupToken}
 use Rattle.longest.specs.Longest.{Stretch, joinedRuns, longest, forestLongest, trees}
 use Rattle.longest.specs.Stack.{Step, one-leaf, one-group, Fits, Runs, runs, Sized, Entry, Entries, SameFrom, jobsOf, runOf, Beside, Joined, Stacked}
 use Rattle.longest.proofs.Sums.{sum-append}

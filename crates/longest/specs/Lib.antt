@@ -2,5 +2,4 @@
 pub mod Chains
 pub mod Longest
 pub mod Outcome
-pub mod Tokens
 pub mod Stack

@@ -12,7 +12,7 @@ use Rattle.record.specs.Bits.{AllBelow}
 use Rattle.record.specs.Layout.{hoursBits, mostHours, moreChildren}
 use Rattle.record.proofs.Sizes.{Small}
 use Rattle.reader.specs.Parts.{Strand}
-use Rattle.longest.specs.Tokens.{groupToken, tokens}
+use Rattle.record.specs.Tokens.{groupToken, tokens}
 use Rattle.longest.specs.Longest.{Stretch, joinedRuns, longest, trees}
 use Rattle.longest.specs.declared.stack.Run.{Run}
 use Rattle.longest.specs.declared.showing.Showing.{Showing}

@@ -124,7 +124,7 @@ fn taken(
 
 // The longest run of the tree whose nodes these are.
 pub fn longest(
-    tokens: &[u16; 256],
+    tokens: &[u16; record::NODE_ROOM],
     count: usize,
     hours: &[u16; 128],
     next: &mut [u8; 128],
