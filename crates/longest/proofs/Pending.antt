@@ -1,16 +1,18 @@
 -- The trees in a row from a node of a tree on.
-use Prim.Native.Nat.{ℕ, zero, suc, _≤_, _<_}
+use Prim.Native.Nat.{ℕ, zero, suc, _-_, _≤_, _<_}
 use mathlib.Core.Path.{_≡_, refl, sym, ap, subst, _∙_}
 use mathlib.Core.List.{List, [], _∷_, _++_, flatMap, append-nil, append-assoc}
 use native.Mathlib.Omega.{arith}
-use lib.ListN.{length, getD}
+use lib.ListN.{length, getD, replicate, length-append}
+use lib.Seq.{getD-take}
 use Rattle.poset.specs.Lists.{occurrences}
 use Rattle.poset.specs.Tree.{Kind, Tree, leaf, node, Forest, last, more, leaves, forestLeaves}
 use Rattle.poset.proofs.Laws.{count-append, flatMap-append}
-use Rattle.record.proofs.Sizes.{Small, small-right}
-use Rattle.record.specs.Tokens.{tokens, forestTokens}
-use Rattle.longest.specs.Longest.{trees}
-use Rattle.longest.specs.Stack.{Step, one-leaf, one-group, Fits}
+use Rattle.record.proofs.Sizes.{Small, small-right, groups-lt}
+use Rattle.record.proofs.Tokens.{tokens-length}
+use Rattle.record.specs.Tokens.{tokens, forestTokens, nodeRoom}
+use Rattle.longest.specs.Longest.{longest, trees}
+use Rattle.longest.specs.Stack.{Step, one-leaf, one-group, Fits, Runs, runs, Stacked, Listed, Found}
 use Rattle.longest.proofs.Stacking.{trees-leaves}
 
 -- nodes, and the trees in a row that they are
@@ -66,3 +68,37 @@ pub fits-at : {xs : List ℕ} {us : List Tree} (i : ℕ) (s : Spells xs us) → 
 fits-at zero s fits = fits
 fits-at (suc i) none fits = fits
 fits-at (suc i) (one-more step s) fits = fits-at i s (step-fits step fits)
+
+-- the nodes of a tree, taken from the last to the first
+
+module _ (t : Tree) (list : List ℕ) (count : ℕ) (l : Listed t list count) where
+  pub row-step : (i : ℕ) → 0 < i → i ≤ count → Step (getD list (i - 1) 0) (pending i (spells t)) (pending (i - 1) (spells t))
+  row-step i some inside =
+      let next : suc (i - 1) ≡ i = omega arith in
+      let here : getD (tokens t) (i - 1) 0 ≡ getD list (i - 1) 0 =
+      ap (λ (xs : List ℕ). getD xs (i - 1) 0) (sym (l .these)) ∙ getD-take count list (i - 1) 0 (omega arith) in
+      subst (λ (x : ℕ). Step x (pending i (spells t)) (pending (i - 1) (spells t))) here
+      (subst (λ (n : ℕ). Step (getD (tokens t) (i - 1) 0) (pending n (spells t)) (pending (i - 1) (spells t))) next
+      (step-at (i - 1) (spells t) (omega (arith, l .number))))
+
+  pub row-fits : (i : ℕ) → Fits (pending i (spells t))
+  row-fits i = fits-at i (spells t) (l .fits)
+
+  pub nodes-few : count ≤ nodeRoom
+  unfolding flatMap
+  nodes-few = omega (arith, l .number, tokens-length t, groups-lt t, l .fits .small .1, length-append (leaves t) [])
+
+  pub row-end : (next : List ℕ) → length next ≡ 128 → (hours : ℕ → ℕ)
+      → Stacked hours (pending count (spells t)) 128 (runs (replicate 128 0) (replicate 128 0) (replicate 128 0) next)
+  row-end next size hours =
+      subst (λ (ts : List Tree). Stacked hours ts 128 (runs (replicate 128 0) (replicate 128 0) (replicate 128 0) next))
+      (sym (ap (λ (n : ℕ). pending n (spells t)) (l .number) ∙ pending-end (spells t)))
+      (record { sized = record { totals-size = refl; firsts-size = refl; lasts-size = refl; next-size = size }; height = refl; entries = tt })
+
+  -- at the first node the tree's run is on top
+  pub row-found : (hours : ℕ → ℕ) (i top : ℕ) (w : Runs) → i ≤ 0 → Stacked hours (pending i (spells t)) top w
+      → (top < 128) × Found (longest hours t) (w .next) (record { total = getD (w .totals) top 0; first = getD (w .firsts) top 0; last = getD (w .lasts) top 0 })
+  row-found hours i top w first s =
+      let zero-th : i ≡ 0 = omega arith in
+      let whole : Stacked hours (t ∷ []) top w = subst (λ (n : ℕ). Stacked hours (pending n (spells t)) top w) zero-th s in
+      (omega (arith, whole .height), record { total-is = whole .entries .0 .total; strand = whole .entries .0 .strand })

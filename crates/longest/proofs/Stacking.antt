@@ -10,7 +10,7 @@ use Rattle.poset.specs.Tree.{Kind, series, parallel, Tree, leaf, node, Forest, 
 use Rattle.poset.proofs.Laws.{count-append, flatMap-append, mem-count, count-mem}
 use Rattle.record.specs.Bits.{AllBelow}
 use Rattle.record.specs.Layout.{hoursBits, mostHours, kindBit, moreChildren, hoursOf}
-use Rattle.record.proofs.Below.{below-append}
+use Rattle.record.proofs.Entries.{entry-below}
 use Rattle.record.proofs.Sizes.{Small, small-right, kind-below, groups-lt}
 use Rattle.reader.specs.Parts.{Strand, alone}
 use Rattle.record.specs.Tokens.{groupToken}
@@ -75,6 +75,9 @@ module _ (hours : ℕ → ℕ) (u : ℕ) where
         count-append u (longest hours t .1) (jobsOf (map (longest hours) ts)),
         count-append u (leaves t) (flatMap leaves ts),
       )
+
+pub hours-most : (hours : List ℕ) → AllBelow (2 ^ hoursBits) hours → (u : ℕ) → hoursOf hours u ≤ mostHours
+hours-most hours low u = omega (arith, entry-below hours u (2 ^ hoursBits) (omega arith) low)
 
 -- the totals of runs are small
 runs-small : (hours : ℕ → ℕ) → ((u : ℕ) → hours u ≤ mostHours) → (ts : List Tree)
@@ -189,7 +192,7 @@ module _ (hours : ℕ → ℕ) (top : ℕ) (w : Runs) where
 -- any node
 
 -- what is seen of a group's token
-abbrev IsGroup : Kind → ℕ → Type 0
+abbrev pub IsGroup : Kind → ℕ → Type 0
 IsGroup series token = (256 ≤ token) × (token < 384)
 IsGroup parallel token = 384 ≤ token
 

@@ -3,6 +3,7 @@
 ghost use Prim.Native.Nat.{ℕ, _^_};
 ghost use mathlib.Core.Path.{_≡_};
 ghost use mathlib.Core.List.{List};
+ghost use lib.ListN.{length};
 ghost use Rattle.poset.specs.Tree.{series, parallel, Tree};
 ghost use Rattle.record.specs.Bits.{AllBelow};
 ghost use Rattle.record.specs.Layout.{hoursBits, hoursOf};
@@ -129,7 +130,7 @@ pub fn longest(
     hours: &[u16; 128],
     next: &mut [u8; 128],
 ) -> Run
-    requires { ⌜ AllBelow (2 ^ hoursBits) (now hours) × ((t : Tree) × Listed t (now tokens) count) ⌝ }
+    requires { ⌜ AllBelow (2 ^ hoursBits) (now hours) × (length (now next) ≡ 128) × ((t : Tree) × Listed t (now tokens) count) ⌝ }
     ensures { λ r. ⌜ ((t : Tree) → Listed t (now (tokens .entry)) count
         → Found (longest (hoursOf (now (hours .entry))) t) (now (next .exit)) r) ⌝ }
 {

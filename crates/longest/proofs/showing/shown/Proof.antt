@@ -1,54 +1,55 @@
+-- `showing::shown` meets its contract. The invariant: the jobs passed are written, and the run goes on from the present one.
+use Prim.Native.Nat.{ℕ, _-_, _<_}
+use mathlib.Core.List.{List}
+use native.Mathlib.Omega.{arith}
+use Rattle.longest.specs.Stack.{Linked}
+use Rattle.longest.proofs.Listing.{Showed, showed-none, showed-more, showed-all, room, job-small}
 use Rattle.longest.proofs.showing.shown.Statement.{statement}
 use Rattle.longest.proofs.showing.shown.Tie as tie
-use Rattle.longest.proofs.showing.shown.Reads as reads
-use Rattle.longest.proofs.showing.shown.Lts as lts
-use Rattle.longest.proofs.showing.wide.Reads as wide-reads
 
 abbrev Inv-loop : tie.InvT-loop
-Inv-loop next first last jobs₀ count₀ job₀ jobs count job = ?
+Inv-loop next first last jobs₀ count₀ job₀ jobs count job = (xs : List ℕ) (l : Linked next first last xs) → Showed next first last xs l jobs count job
 
 abbrev μ-loop : tie.MeasureT-loop
-μ-loop next first last jobs₀ count₀ job₀ jobs count job = ?
+μ-loop next first last jobs₀ count₀ job₀ jobs count job = 128 - count
 
--- src/showing.rt:27:5
+in-room : (c : tie.At-loop Inv-loop μ-loop) → c .loop .count < 128
+in-room c = let (xs, l) = c .before .pre in room _ _ _ xs l _ _ _ (c .loop .inv xs l)
+
 loop-holds : tie.Need-loop-holds Inv-loop μ-loop
-loop-holds c = ?
+loop-holds c = λ xs l. showed-none _ _ _ xs l
 
--- src/showing.rt:28:9
 array-write-jobs : tie.Need-array-write-jobs Inv-loop μ-loop
-array-write-jobs c = ?
+array-write-jobs c = in-room (c .before)
 
--- src/showing.rt:29:20
 wide-requires : tie.Need-wide-requires Inv-loop μ-loop
-wide-requires c κs = ?
+wide-requires c κs = tt
 
--- src/showing.rt:29:15
 element-copy-out-job : tie.Need-element-copy-out-job Inv-loop μ-loop
-element-copy-out-job c = ?
+element-copy-out-job c =
+    let i = c .before .before in
+    let (xs, l) = i .before .pre in
+    rw (c .wide .ensures) (job-small _ _ _ xs l _ _ _ (i .loop .inv xs l))
 
--- src/showing.rt:30:9
 add-count : tie.Need-add-count Inv-loop μ-loop
-add-count c = ?
+add-count c = omega (arith, in-room (c .before .before .before))
 
--- src/showing.rt:27:5
 loop-less : tie.Need-loop-less Inv-loop μ-loop
-loop-less c = ?
+loop-less c = omega (arith, in-room (c .before .before .before))
 
--- src/showing.rt:27:5
 loop-again : tie.Need-loop-again Inv-loop μ-loop
-loop-again c = ?
+loop-again c =
+    let i = c .before .before in λ xs l.
+    rw (c .before .wide .ensures) (showed-more _ _ _ xs l _ _ _ (i .before .loop .inv xs l) (i .loop-test .taken))
 
--- src/showing.rt:32:5
 array-write-jobs-2 : tie.Need-array-write-jobs-2 Inv-loop μ-loop
-array-write-jobs-2 c = ?
+array-write-jobs-2 c = in-room (c .before)
 
--- src/showing.rt:34:16
 add-t16 : tie.Need-add-t16 Inv-loop μ-loop
-add-t16 c = ?
+add-t16 c = omega (arith, in-room (c .before))
 
--- src/showing.rt:20:1
 returns : tie.Need-returns Inv-loop μ-loop
-returns c = ?
+returns c = λ xs l. showed-all _ _ _ xs l _ _ _ (c .before .loop .inv xs l) (c .loop-test .left)
 
 pub shown-spec : {M : Type 1} → statement M
 shown-spec =
