@@ -78,7 +78,7 @@ zero-entry zero j = refl
 zero-entry (suc k) zero = refl
 zero-entry (suc k) (suc j) = zero-entry k j
 
-entry-padded : (xs : List ℕ) (k j : ℕ) → getD (xs ++ replicate k 0) j 0 ≡ getD xs j 0
+pub entry-padded : (xs : List ℕ) (k j : ℕ) → getD (xs ++ replicate k 0) j 0 ≡ getD xs j 0
 entry-padded [] k j = zero-entry k j
 entry-padded (x ∷ xs) k zero = refl
 entry-padded (x ∷ xs) k (suc j) = entry-padded xs k j

@@ -6,3 +6,4 @@ pub mod Folding
 pub mod Stacking
 pub mod Pending
 pub mod Listing
+pub mod Answering

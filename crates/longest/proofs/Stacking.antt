@@ -42,7 +42,7 @@ module _ (hours : ℕ → ℕ) (u : ℕ) where
   mutual
     unfolding longest leaves
 
-    run-of-leaves : (t : Tree) → occurrences u (longest hours t .1) ≤ occurrences u (leaves t)
+    pub run-of-leaves : (t : Tree) → occurrences u (longest hours t .1) ≤ occurrences u (leaves t)
     run-of-leaves (leaf j) = omega arith
     run-of-leaves (node k t f) =
         omega (
