@@ -1,11 +1,12 @@
 //! One input held against `second`, and the count of all of them.
 
-use crate::ffi::{self, Areas};
+use crate::ffi::{self, Areas, Run};
 use crate::generate::damages;
 use crate::lent::Lent;
-use second::{packed, Outcome};
+use second::{packed, LongestRun, Outcome};
 use std::collections::{BTreeMap, HashSet};
 use std::fmt::Write;
+use std::hash::{DefaultHasher, Hash, Hasher};
 
 /// Areas long enough for any record and any reduced orders.
 pub const ENOUGH: (usize, usize) = (464, 8192);
@@ -65,6 +66,12 @@ fn hours_room(record: &[u8]) -> usize {
 
 fn bytes_of(numbers: &[u16]) -> Vec<u8> {
     numbers.iter().flat_map(|n| n.to_ne_bytes()).collect()
+}
+
+fn jobs_and_zeros(jobs: &[u8]) -> [u8; 128] {
+    let mut entries = [0; 128];
+    entries[..jobs.len()].copy_from_slice(jobs);
+    entries
 }
 
 fn hex(bytes: &[u8]) -> String {
@@ -151,6 +158,8 @@ pub struct Tally {
     pub failed: u64,
     /// Inputs of each family, and of those the answers by number.
     pub families: BTreeMap<&'static str, [u64; 14]>,
+    /// Calls for a longest run, accepted and refused.
+    pub runs: [u64; 2],
     distinct: HashSet<u64>,
     pattern: u64,
 }
@@ -165,6 +174,9 @@ impl Tally {
                 *sum += answer;
             }
         }
+        for (sum, calls) in self.runs.iter_mut().zip(other.runs) {
+            *sum += calls;
+        }
         self.distinct.extend(other.distinct);
     }
 
@@ -172,11 +184,12 @@ impl Tally {
         self.distinct.len()
     }
 
-    /// Holds every entry that takes the input against `second`; counts one input.
+    /// Holds every entry that takes the input against `second`, and the longest run
+    /// of the record that it is or gives; counts one input.
     pub fn compare(&mut self, input: &Input, record_area: usize, reduced_area: usize) -> Outcome {
         let expected = input.second(record_area, reduced_area);
         let lent = (record_area, reduced_area);
-        let wrong = match input {
+        let mut wrong = match input {
             Input::Sheet(sheet) => self
                 .call(
                     "ordersheet_analyse",
@@ -231,7 +244,12 @@ impl Tally {
                     )
                 }),
         };
-        self.count(input, record_area, reduced_area, expected.number);
+        if let Input::Record(record) = input {
+            wrong = wrong.or_else(|| self.longest_run(record).1);
+        } else if expected.number == 0 {
+            wrong = wrong.or_else(|| self.longest_run(&expected.record).1);
+        }
+        self.count((input, record_area, reduced_area), expected.number);
         if let Some(wrong) = wrong {
             let areas = format!("record area {record_area}, reduced area {reduced_area}");
             self.fail(&format!("{}\n  {areas}\n{wrong}", input.show()));
@@ -239,8 +257,18 @@ impl Tally {
         expected
     }
 
-    /// The same with areas that are long enough; an accepted sheet's or list's
-    /// record is read back.
+    /// Holds the longest run of a record, or of bytes that are none, against `second`;
+    /// counts one input.
+    pub fn compare_run(&mut self, record: &[u8]) {
+        let (number, wrong) = self.longest_run(record);
+        self.count(("longest run", record), number);
+        if let Some(wrong) = wrong {
+            self.fail(&wrong);
+        }
+    }
+
+    /// The same as `compare` with areas that are long enough; an accepted sheet's or
+    /// list's record is read back.
     pub fn compare_enough(&mut self, input: &Input) -> Outcome {
         let outcome = self.compare(input, ENOUGH.0, ENOUGH.1);
         self.read_back(&outcome);
@@ -265,12 +293,11 @@ impl Tally {
         }
     }
 
-    fn count(&mut self, input: &Input, record_area: usize, reduced_area: usize, number: u64) {
-        use std::hash::{DefaultHasher, Hash, Hasher};
+    fn count(&mut self, input: impl Hash, number: u64) {
         self.inputs += 1;
         self.families.entry(self.family).or_default()[number as usize] += 1;
         let mut hasher = DefaultHasher::new();
-        (input, record_area, reduced_area).hash(&mut hasher);
+        input.hash(&mut hasher);
         self.distinct.insert(hasher.finish());
     }
 
@@ -353,5 +380,46 @@ impl Tally {
             let _ = writeln!(report, "    the input was changed");
         }
         Some(report)
+    }
+
+    /// One call for the longest run of a fresh copy of the record: the number that
+    /// `second` gives, and what is wrong with the call, if anything.
+    fn longest_run(&mut self, record: &[u8]) -> (u64, Option<String>) {
+        let LongestRun {
+            number,
+            places,
+            total,
+            jobs,
+        } = second::longest_run(record);
+        let expected = Run {
+            answer: packed(number, places),
+            total,
+            count: jobs.len() as u64,
+            jobs: jobs_and_zeros(&jobs),
+        };
+        let copy = Lent::new(record);
+        let run = ffi::longest_run(&copy);
+        self.runs[(number != 0) as usize] += 1;
+        if run == expected && copy.is(record) {
+            return (number, None);
+        }
+        let mut report = format!("longest run of record {}\n", hex(record));
+        for (name, run) in [("second", expected), ("ordersheet_longest_run", run)] {
+            let Run {
+                answer,
+                total,
+                count,
+                jobs,
+            } = run;
+            let _ = writeln!(
+                report,
+                "  {name}: answer hexadecimal {answer:x}, total {total}, count {count}"
+            );
+            let _ = writeln!(report, "    jobs {}", hex(&jobs));
+        }
+        if !copy.is(record) {
+            let _ = writeln!(report, "    the record was changed");
+        }
+        (number, Some(report))
     }
 }

@@ -2,6 +2,7 @@
 
 use crate::check::{Input, Tally, ENOUGH};
 use crate::generate::*;
+use crate::runs;
 use second::{cases, LONGEST_RECORD, LONGEST_SHEET, MOST_ORDERS};
 use std::collections::BTreeSet;
 
@@ -34,7 +35,7 @@ impl Task {
 
 /// All tasks, those of the heavy families first.
 pub fn tasks() -> Vec<Task> {
-    let families: [(&'static str, usize, Body); 32] = [
+    let families: [(&'static str, usize, Body); 37] = [
         (
             "sheets about the longest",
             LONG_COUNTS.len(),
@@ -58,6 +59,19 @@ pub fn tasks() -> Vec<Task> {
         ("cut short at every byte", 10, cut_short),
         ("every text of up to 6 letters", TEXT_PARTS, every_text),
         ("records with a flaw", 20, flawed_records),
+        ("longest runs of any tree", 20, runs::any_trees),
+        (
+            "longest runs of extreme trees",
+            runs::EXTREME_PARTS,
+            runs::extreme_trees,
+        ),
+        ("longest runs that are equal", 10, runs::equal_totals),
+        (
+            "longest runs of small trees",
+            runs::SMALL_PARTS,
+            runs::small_trees,
+        ),
+        ("longest runs of no record", 10, runs::no_records),
         ("hours of every bit pattern", PATTERN_PARTS, every_hours),
         ("every bit flipped", FLIP_PARTS, every_bit),
         ("hours alone differ", 20, hours_alone),
@@ -371,22 +385,8 @@ fn some_below(rng: &mut Rng, bound: usize, most: usize) -> Vec<usize> {
 
 /// Records laid out by hand with one flaw, or with none.
 fn flawed_records(rng: &mut Rng, part: usize, tally: &mut Tally) {
-    let flaws = [
-        Flaw::None,
-        Flaw::WrongCount,
-        Flaw::JobTwice,
-        Flaw::JobOffTheList,
-        Flaw::GroupOfOne,
-        Flaw::UnsortedSides,
-        Flaw::SameKindInside,
-        Flaw::FillSet,
-        Flaw::MoreBytes,
-        Flaw::HoursOf(0),
-        Flaw::HoursOf(11),
-        Flaw::HoursOf(13),
-    ];
     for round in 0..900 {
-        let record = flawed_record(rng, flaws[round % flaws.len()]);
+        let record = flawed_record(rng, FLAWS[round % FLAWS.len()]);
         compare_record(rng, tally, record);
     }
     if part > 0 {

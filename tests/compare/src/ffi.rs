@@ -62,6 +62,18 @@ extern "C" {
         reverse: *mut u8,
         reverse_len: usize,
     ) -> u64;
+
+    fn ordersheet_longest_run(record: *const u8, record_len: usize) -> Run;
+}
+
+/// What comes back of a longest run: its jobs, so many, have zeros after them.
+#[derive(PartialEq, Eq)]
+#[repr(C)]
+pub struct Run {
+    pub answer: u64,
+    pub total: u64,
+    pub count: u64,
+    pub jobs: [u8; 128],
 }
 
 /// The areas lent to a call.
@@ -149,4 +161,8 @@ pub fn test_read(record: &Lent<u8>, areas: &mut Areas) -> u64 {
             areas.reverse.length(),
         )
     }
+}
+
+pub fn longest_run(record: &Lent<u8>) -> Run {
+    unsafe { ordersheet_longest_run(record.pointer(), record.length()) }
 }

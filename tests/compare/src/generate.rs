@@ -144,6 +144,90 @@ pub fn sort_sides(shape: &mut Shape) {
     }
 }
 
+/// The tree with its side children sorted so.
+pub fn plain(mut shape: Shape) -> Shape {
+    sort_sides(&mut shape);
+    shape
+}
+
+fn leaves(jobs: &[usize]) -> Vec<Shape> {
+    jobs.iter().map(|&job| Shape::Leaf(job)).collect()
+}
+
+/// A group of the children, or the one child that there is.
+fn group(side: bool, mut children: Vec<Shape>) -> Shape {
+    if children.len() == 1 {
+        return children.remove(0);
+    }
+    Shape::Group { side, children }
+}
+
+/// The jobs, so many at a time, in groups in a group of this kind.
+pub fn blocks(jobs: &[usize], side: bool, width: usize) -> Shape {
+    let each = jobs.chunks(width).map(|jobs| group(!side, leaves(jobs)));
+    group(side, each.collect())
+}
+
+/// Groups of two of both kinds in turn, the outermost of this kind, each the last
+/// or the first child of the one ahead.
+pub fn nested(jobs: &[usize], side: bool, last: bool) -> Shape {
+    if jobs.len() == 1 {
+        return Shape::Leaf(jobs[0]);
+    }
+    let inner = nested(&jobs[1..], !side, last);
+    let mut children = vec![Shape::Leaf(jobs[0]), inner];
+    if !last {
+        children.reverse();
+    }
+    group(side, children)
+}
+
+/// Every plain tree on the jobs, which ascend.
+pub fn every_plain(jobs: &[usize]) -> Vec<Shape> {
+    let mut trees = every_plain_of(jobs, false);
+    if jobs.len() > 1 {
+        trees.extend(every_plain_of(jobs, true));
+    }
+    trees
+}
+
+/// Those of them that are groups of this kind, or the leaf.
+fn every_plain_of(jobs: &[usize], side: bool) -> Vec<Shape> {
+    if jobs.len() == 1 {
+        return leaves(jobs);
+    }
+    let lists = every_list(jobs, side, jobs.len() - 1);
+    lists
+        .into_iter()
+        .map(|children| Shape::Group { side, children })
+        .collect()
+}
+
+/// Every list of children that such a group can have, the first with at most so
+/// many of the jobs. In a side group the first has the smallest.
+fn every_list(jobs: &[usize], side: bool, most: usize) -> Vec<Vec<Shape>> {
+    if jobs.is_empty() {
+        return vec![Vec::new()];
+    }
+    let mut lists = Vec::new();
+    for choice in 1usize..1 << jobs.len() {
+        if choice.count_ones() as usize > most || side && choice % 2 == 0 {
+            continue;
+        }
+        let chosen = |wanted: usize| -> Vec<usize> {
+            let places = (0..jobs.len()).filter(|place| choice >> place & 1 == wanted);
+            places.map(|place| jobs[place]).collect()
+        };
+        let rests = every_list(&chosen(0), side, jobs.len());
+        for first in every_plain_of(&chosen(1), !side) {
+            for rest in &rests {
+                lists.push([&[first.clone()], &rest[..]].concat());
+            }
+        }
+    }
+    lists
+}
+
 /// The orders that a tree cannot do without, and all that it means.
 #[derive(Default)]
 pub struct Meant {
@@ -463,6 +547,21 @@ pub enum Flaw {
     HoursOf(usize),
 }
 
+pub const FLAWS: [Flaw; 12] = [
+    Flaw::None,
+    Flaw::WrongCount,
+    Flaw::JobTwice,
+    Flaw::JobOffTheList,
+    Flaw::GroupOfOne,
+    Flaw::UnsortedSides,
+    Flaw::SameKindInside,
+    Flaw::FillSet,
+    Flaw::MoreBytes,
+    Flaw::HoursOf(0),
+    Flaw::HoursOf(11),
+    Flaw::HoursOf(13),
+];
+
 /// The record of a random tree with one flaw, or with none.
 pub fn flawed_record(rng: &mut Rng, flaw: Flaw) -> Vec<u8> {
     let count = job_count(rng);
@@ -547,6 +646,20 @@ fn set_leaf(shape: &mut Shape, left: &mut usize, to: usize) {
                 .for_each(|child| set_leaf(child, left, to));
         }
     }
+}
+
+/// The record of a plain tree with these hours by job.
+pub fn laid_out(tree: &Shape, hours: &[u16]) -> Vec<u8> {
+    let mut bits = Bits::default();
+    bits.put(hours.len() - 1, 7);
+    let mut layout = Layout {
+        hours,
+        width: 12,
+        single: usize::MAX,
+        single_side: false,
+    };
+    layout.put(&mut bits, tree);
+    bits.bytes()
 }
 
 /// How a shape is laid out: with hours by job, of so many bits; the leaf with

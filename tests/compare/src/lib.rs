@@ -8,6 +8,7 @@ pub mod generate;
 pub mod lent;
 #[cfg(feature = "mock")]
 pub mod mock;
+pub mod runs;
 
 use check::Tally;
 use families::Task;

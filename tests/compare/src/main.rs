@@ -3,7 +3,8 @@
 //! `second`; with `--features mock`, `second` against itself.
 //! `compare` runs every family, `compare WORD...` those whose names hold one of
 //! the words. The last line is `N passed, M failed`, N and M counting inputs: a
-//! sheet or pair list with two area lengths, or a record with one.
+//! sheet or pair list with two area lengths, a record with one, or a record for
+//! its longest run alone.
 
 use std::process::ExitCode;
 use std::time::Instant;
@@ -25,6 +26,8 @@ fn main() -> ExitCode {
             .collect();
         println!("{family:<36}{total:>8}   {}", each.join(", "));
     }
+    let [accepted, refused] = tally.runs;
+    println!("longest runs: {accepted} of records, {refused} of bytes that are none");
     println!(
         "{} different inputs in {:.1} s",
         tally.distinct(),

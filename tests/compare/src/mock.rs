@@ -1,15 +1,18 @@
 //! The C entries made of `second`, to try the harness with no library. A fault
 //! other than 0 makes them wrong in one way, which the harness has to find.
 
+use crate::ffi;
 use crate::generate::{list, with_hours_of, Bits};
+use second::longest::{self, Run};
 use second::sheet::Sheet;
+use second::tree::Tree;
 use second::{packed, Outcome, LONGEST_RECORD, LONGEST_SHEET, MOST_HOURS};
 use std::slice::{from_raw_parts, from_raw_parts_mut};
 use std::sync::atomic::{AtomicUsize, Ordering};
 
 pub static FAULT: AtomicUsize = AtomicUsize::new(0);
 
-pub const FAULTS: [&str; 82] = [
+pub const FAULTS: [&str; 108] = [
     "none",
     "a byte after the record is set",
     "a byte after the reduced orders is set",
@@ -92,6 +95,32 @@ pub const FAULTS: [&str; 82] = [
     "a record of 464 bytes is too long",
     "a record over 272 bytes is too long",
     "a record without hours is read",
+    "the last child with the greatest total is taken",
+    "the first child of a side group is taken",
+    "of children with the greatest total the one with most jobs is taken",
+    "the child with most jobs is taken",
+    "a chain takes its child with the greatest total",
+    "a side group adds its children's runs",
+    "jobs with no hours are left out of a run",
+    "a run is listed latest first",
+    "a run is listed by job number",
+    "the total of a run has 16 bits",
+    "the count of a run is one too many",
+    "the count of a run is one too few",
+    "a job is left after a run",
+    "the last of 128 jobs of a run is left out",
+    "the answer to a run has the record's places",
+    "the record of a run is written to",
+    "a total stays on refusal",
+    "a count stays on refusal",
+    "jobs stay on refusal",
+    "a run is given where zero bytes follow the record",
+    "a run is given where bits that fill the last byte are set",
+    "a run is given where a group has one child",
+    "a run is given where a job stands twice",
+    "a run is given where a job does not stand",
+    "a run is given where a group is in one of its kind",
+    "a run is given where side children do not ascend",
 ];
 
 fn fault(name: &str) -> bool {
@@ -753,6 +782,148 @@ unsafe fn record_read(record: *const u8, record_len: usize, lent: &Lent) -> u64 
         }
     }
     lent.write(outcome, count)
+}
+
+/// The run of a tree where a rule is wrong.
+fn run_of(tree: &Tree) -> Run {
+    let runs: Vec<Run> = tree.children().iter().map(run_of).collect();
+    match tree {
+        Tree::Leaf { hours: 0, .. } if fault("jobs with no hours are left out of a run") => {
+            Run::default()
+        }
+        Tree::Leaf { .. } => longest::of_tree(tree),
+        Tree::Chain(_) if fault("a chain takes its child with the greatest total") => {
+            longest::first_greatest(runs)
+        }
+        Tree::Chain(_) => longest::added(runs),
+        Tree::Side(_) => run_of_side(runs),
+    }
+}
+
+fn run_of_side(mut runs: Vec<Run>) -> Run {
+    if fault("the last child with the greatest total is taken") {
+        runs.reverse();
+    }
+    if fault("the first child of a side group is taken") {
+        runs.truncate(1);
+    }
+    // Sorting keeps the order of equals.
+    if fault("of children with the greatest total the one with most jobs is taken") {
+        runs.sort_by_key(|run| usize::MAX - run.jobs.len());
+    }
+    if fault("the child with most jobs is taken") {
+        runs.sort_by_key(|run| usize::MAX - run.jobs.len());
+        runs.truncate(1);
+    }
+    if fault("a side group adds its children's runs") {
+        return longest::added(runs);
+    }
+    longest::first_greatest(runs)
+}
+
+/// Whether a tree on so many jobs breaks a rule.
+type Breaks = fn(&Tree, usize) -> bool;
+
+/// Faults where a rule is not tested.
+const UNTESTED: [(&str, Breaks); 5] = [
+    ("a run is given where a group has one child", |tree, _| {
+        !tree.groups_have_two_or_more()
+    }),
+    ("a run is given where a job stands twice", |tree, _| {
+        !tree.no_job_twice()
+    }),
+    (
+        "a run is given where a job does not stand",
+        |tree, count| !tree.every_job_stands(count),
+    ),
+    (
+        "a run is given where a group is in one of its kind",
+        |tree, _| !tree.no_chain_in_chain() || !tree.no_side_in_side(),
+    ),
+    (
+        "a run is given where side children do not ascend",
+        |tree, _| !tree.side_children_ascend(),
+    ),
+];
+
+/// The tree of bytes that are no record, where they are let pass.
+fn let_pass(record: &[u8]) -> Option<Tree> {
+    let mut bytes = record.to_vec();
+    if fault("a run is given where zero bytes follow the record") {
+        while bytes.last() == Some(&0) && second::record::read(&bytes).is_none() {
+            bytes.pop();
+        }
+        return Some(second::record::read(&bytes)?.1);
+    }
+    if fault("a run is given where bits that fill the last byte are set") {
+        *bytes.last_mut()? &= 0xfe;
+        return Some(second::record::read(&bytes)?.1);
+    }
+    let (_, breaks) = UNTESTED.iter().find(|(name, _)| fault(name))?;
+    let (count, tree) = second::record::spelled(&bytes)?;
+    (tree.jobs_below(count) && breaks(&tree, count)).then_some(tree)
+}
+
+/// The run of bytes, all that comes back of it wrong in one way.
+fn wrong_run(record: &[u8]) -> ffi::Run {
+    let read = second::record::read(record).map(|(_, tree)| tree);
+    let refused = read.is_none();
+    let tree = read.or_else(|| let_pass(record));
+    let number = if tree.is_some() { 0 } else { 11 };
+    let Run { total, mut jobs } = tree.as_ref().map_or(Run::default(), run_of);
+    jobs.truncate(128);
+    if fault("a run is listed latest first") {
+        jobs.reverse();
+    }
+    if fault("a run is listed by job number") {
+        jobs.sort();
+    }
+    if fault("the last of 128 jobs of a run is left out") {
+        jobs.truncate(127);
+    }
+    let mut run = ffi::Run {
+        answer: packed(number, [0; 4]),
+        total: total as u64,
+        count: jobs.len() as u64,
+        jobs: [0; 128],
+    };
+    for (entry, &job) in run.jobs.iter_mut().zip(&jobs) {
+        *entry = job as u8;
+    }
+    if fault("the total of a run has 16 bits") {
+        run.total %= 1 << 16;
+    }
+    if !refused && fault("the count of a run is one too many") {
+        run.count += 1;
+    }
+    if !refused && fault("the count of a run is one too few") {
+        run.count -= 1;
+    }
+    if !refused && jobs.len() < 128 && fault("a job is left after a run") {
+        run.jobs[jobs.len()] = 1;
+    }
+    if !refused && fault("the answer to a run has the record's places") {
+        let read = second::read_record(record, 8192);
+        run.answer = packed(read.number, read.places);
+    }
+    if refused && fault("a total stays on refusal") {
+        run.total = 1;
+    }
+    if refused && fault("a count stays on refusal") {
+        run.count = 1;
+    }
+    if refused && fault("jobs stay on refusal") {
+        run.jobs[127] = 1;
+    }
+    run
+}
+
+#[no_mangle]
+pub unsafe extern "C" fn ordersheet_longest_run(record: *const u8, record_len: usize) -> ffi::Run {
+    if record_len > 0 && fault("the record of a run is written to") {
+        *(record as *mut u8).add(record_len - 1) ^= 1;
+    }
+    wrong_run(from_raw_parts(record, record_len))
 }
 
 #[no_mangle]

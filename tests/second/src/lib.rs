@@ -1,8 +1,9 @@
-//! The analysis of order sheets and pair lists, and the record reader, written
-//! from document 01 and requests A.1 and A.2 alone by the plainest search their
-//! words allow.
+//! The analysis of order sheets and pair lists, the record reader and the longest
+//! run, written from document 01 and requests A.1 to A.3 alone by the plainest
+//! search their words allow.
 
 pub mod cases;
+pub mod longest;
 pub mod order;
 pub mod record;
 pub mod sheet;
@@ -160,6 +161,30 @@ fn accepted(
         forward: entries(&tree.forward()).map(|job| job as u8),
         reverse: entries(&tree.reverse()).map(|job| job as u8),
         hours: entries(&tree.hours(count)).map(|hours| hours as u16),
+    }
+}
+
+/// An answer, the total of a longest run and its jobs, earliest first; on refusal
+/// the total is 0 and there are no jobs.
+#[derive(Clone, Debug, PartialEq, Eq)]
+pub struct LongestRun {
+    pub number: u64,
+    pub places: [u64; 4],
+    pub total: u64,
+    pub jobs: Vec<u8>,
+}
+
+/// The longest run of a record.
+pub fn longest_run(record: &[u8]) -> LongestRun {
+    let (number, run) = match record::read(record) {
+        Some((_, tree)) => (0, longest::of_tree(&tree)),
+        None => (11, longest::Run::default()),
+    };
+    LongestRun {
+        number,
+        places: [0; 4],
+        total: run.total as u64,
+        jobs: run.jobs.into_iter().map(|job| job as u8).collect(),
     }
 }
 

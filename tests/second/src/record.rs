@@ -41,6 +41,12 @@ pub fn lay_out(count: usize, tree: &Tree) -> Vec<u8> {
 /// The job count and the plain tree that the bytes spell, if they are the
 /// record of one.
 pub fn read(record: &[u8]) -> Option<(usize, Tree)> {
+    spelled(record).filter(|(count, tree)| tree.is_plain(*count))
+}
+
+/// The job count and the tree, plain or not, that the bytes spell, if they are
+/// no more than the longest record and spell one.
+pub fn spelled(record: &[u8]) -> Option<(usize, Tree)> {
     if record.len() > LONGEST_RECORD {
         return None;
     }
@@ -49,11 +55,7 @@ pub fn read(record: &[u8]) -> Option<(usize, Tree)> {
     let count = take_number(&mut rest, NUMBER)? + 1;
     let tree = take_node(&mut rest)?;
     let only_fill_follows = rest.len() < 8 && !rest.contains('1');
-    if only_fill_follows && tree.is_plain(count) {
-        Some((count, tree))
-    } else {
-        None
-    }
+    only_fill_follows.then_some((count, tree))
 }
 
 fn take<'a>(rest: &mut &'a str, length: usize) -> Option<&'a str> {

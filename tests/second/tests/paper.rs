@@ -1,10 +1,10 @@
-//! What document 01 and requests A.1 and A.2 say of single sheets, lists and
+//! What document 01 and requests A.1 to A.3 say of single sheets, lists and
 //! records.
 
 use second::cases::{cases, sheet, widest, zeros};
 use second::{
-    analyse_pairs, analyse_sheet, packed, printed, read_record, Outcome, LONGEST_RECORD,
-    LONGEST_SHEET, MOST_ORDERS,
+    analyse_pairs, analyse_sheet, longest_run, packed, printed, read_record, LongestRun, Outcome,
+    LONGEST_RECORD, LONGEST_SHEET, MOST_ORDERS,
 };
 
 const ENOUGH: (usize, usize) = (464, 8192);
@@ -563,4 +563,106 @@ fn hours_of_each_leaf() {
     for record in [&[0, 0][..], &[3, 1, 1, 0], &[3, 0x81, 0, 1]] {
         refused(&read_record(record, 8192), 11, [0; 4]);
     }
+}
+
+/// The total and the jobs of the longest run of a sheet's record.
+fn run(shown: &str) -> (u64, Vec<u8>) {
+    let run = longest_run(&analysed(shown).record);
+    assert_eq!((run.number, run.places), (0, [0; 4]), "{shown}");
+    (run.total, run.jobs)
+}
+
+#[test]
+fn longest_runs() {
+    for (shown, total, jobs) in [
+        // A leaf.
+        ("1/0/", 0, &[0][..]),
+        ("1/1/", 1, &[0]),
+        ("1/4095/", 4095, &[0]),
+        // A chain adds, and keeps jobs with no hours.
+        ("2/3/4/1 0/", 7, &[1, 0]),
+        ("3/0/5/0/2 1/1 0/", 5, &[2, 1, 0]),
+        // A side group takes the greatest, of equal ones the first.
+        ("2/3/4/", 4, &[1]),
+        ("2/4/3/", 4, &[0]),
+        ("2/4/4/", 4, &[0]),
+        ("4/1/7/7/7/", 7, &[1]),
+        // The first child is the chain 2, 0, though its leaf 2 is above job 1.
+        ("3/2/5/3/2 0/", 5, &[2, 0]),
+        ("3/2/6/3/2 0/", 6, &[1]),
+        // Equal totals: the first child, whether it has fewer jobs or more.
+        ("3/4/3/1/1 2/", 4, &[0]),
+        ("3/1/4/3/0 2/", 4, &[0, 2]),
+        ("3/0/0/0/1 2/", 0, &[0]),
+        ("3/0/0/0/0 2/", 0, &[0, 2]),
+        // The sample, with job 4 aside; then with 4 as long as the chain, then longer.
+        ("5/40/16/16/24/8/0 1/0 2/1 3/2 3/0 3/", 80, &[0, 1, 3]),
+        ("5/40/16/17/24/8/0 1/0 2/1 3/2 3/0 3/", 81, &[0, 2, 3]),
+        ("5/40/16/16/24/80/0 1/0 2/1 3/2 3/0 3/", 80, &[0, 1, 3]),
+        ("5/40/16/16/24/81/0 1/0 2/1 3/2 3/0 3/", 81, &[4]),
+        ("5/0/0/0/0/0/0 1/0 2/1 3/2 3/0 3/", 0, &[0, 1, 3]),
+        // Two side groups in a chain, each by itself.
+        ("4/1/2/4/3/0 2/0 3/1 2/1 3/", 6, &[1, 2]),
+        ("4/2/2/3/4/0 2/0 3/1 2/1 3/", 6, &[0, 3]),
+        ("4/2/2/3/3/2 0/3 0/2 1/3 1/", 5, &[2, 0]),
+    ] {
+        assert_eq!(run(shown), (total, jobs.to_vec()), "{shown}");
+    }
+}
+
+#[test]
+fn longest_runs_of_128_jobs() {
+    let every: Vec<u8> = (0..128).collect();
+    let all = |hours: usize| "128/".to_string() + &format!("{hours}/").repeat(128);
+    let chain: String = (1..128).map(|job| format!("{} {job}/", job - 1)).collect();
+    let turned: String = (1..128).map(|job| format!("{job} {}/", job - 1)).collect();
+    for (hours, total) in [(4095, 524_160), (1, 128), (0, 0)] {
+        let (in_chain, in_turned) = (all(hours) + &chain, all(hours) + &turned);
+        assert_eq!(run(&in_chain), (total, every.clone()));
+        let latest_first = every.iter().rev().copied().collect();
+        assert_eq!(run(&in_turned), (total, latest_first));
+        assert_eq!(run(&all(hours)), (hours as u64, vec![0]));
+    }
+    // Side by side, with one of more hours, and with one more as long.
+    let one_more = |at: usize| {
+        let mut hours = vec!["4094/"; 128];
+        hours[at] = "4095/";
+        hours[127] = "4095/";
+        "128/".to_string() + &hours.concat()
+    };
+    for at in 0..128 {
+        assert_eq!(run(&one_more(at)), (4095, vec![at as u8]));
+    }
+    assert_eq!(run(&widest()), (0, vec![0, 64]));
+}
+
+#[test]
+fn no_run_of_what_is_no_record() {
+    let record = analysed("5/40/16/16/24/8/0 1/0 2/1 3/2 3/0 3/").record;
+    let none = LongestRun {
+        number: 11,
+        places: [0; 4],
+        total: 0,
+        jobs: Vec::new(),
+    };
+    for length in 0..record.len() {
+        assert_eq!(longest_run(&record[..length]), none);
+    }
+    let longer = [&record[..], &[0]].concat();
+    assert_eq!(longest_run(&longer), none);
+    assert_eq!(longest_run(&[0; 465]), none);
+    assert_eq!(longest_run(&[0xff; 464]), none);
+    // Side children the wrong way round, a job twice, a chain in a chain.
+    assert_eq!(longest_run(&[3, 0x81, 1, 0, 0x70, 0, 9]), none);
+    assert_eq!(longest_run(&[3, 1, 0, 0, 0x70, 0, 9]), none);
+    let chain_in_chain = "0000010".to_string()
+        + &"100000001".repeat(2)
+        + &["00", "01", "10"]
+            .map(|job| "000000".to_string() + job + "000000000111")
+            .concat();
+    let bits = chain_in_chain + "000";
+    let byte = |at: usize| u8::from_str_radix(&bits[8 * at..8 * at + 8], 2).unwrap();
+    let bytes: Vec<u8> = (0..bits.len() / 8).map(byte).collect();
+    assert_eq!((bits.len() / 8, bits.len() % 8), (11, 0));
+    assert_eq!(longest_run(&bytes), none);
 }

@@ -2,7 +2,7 @@
 
 use second::order::{before, first_n, free, reduced, Before};
 use second::tree::{of_order, Tree};
-use second::{analyse_pairs, read_record, record, sheet};
+use second::{analyse_pairs, longest_run, read_record, record, sheet};
 use std::collections::{BTreeMap, HashSet};
 
 /// Different hours for each job, 0 and the most among them.
@@ -278,6 +278,172 @@ fn every_relation_on_up_to_four_jobs() {
                 assert!(listed.windows(2).all(|pair| pair[0] < pair[1]));
             }
         }
+    }
+}
+
+fn with_hours(tree: &Tree, hours: &[usize]) -> Tree {
+    let of_each = |children: &[Tree]| {
+        let child = |child| with_hours(child, hours);
+        children.iter().map(child).collect()
+    };
+    match tree {
+        Tree::Leaf { job, .. } => Tree::Leaf {
+            job: *job,
+            hours: hours[*job],
+        },
+        Tree::Chain(children) => Tree::Chain(of_each(children)),
+        Tree::Side(children) => Tree::Side(of_each(children)),
+    }
+}
+
+/// Tries every set of the tree's jobs. The total is the greatest sum of hours over
+/// those in which any two jobs are ordered. Of those with that sum that no further
+/// job can join, the run is the one that comes first by its jobs' places in the
+/// forward sequence: two that part do so in a side group, and the one that goes
+/// on in the child further left comes first.
+fn check_run_by_every_set(tree: &Tree, count: usize) {
+    let table = tree.meaning(count);
+    let hours = tree.hours(count);
+    let forward = tree.forward();
+    let ordered = |u: usize, v: usize| table[u][v] || table[v][u];
+    let sum = |set: &[usize]| set.iter().map(|&job| hours[job]).sum::<usize>();
+    let mut sets = Vec::new();
+    for choice in 0u32..1 << count {
+        // By their places, in which each job is ahead of all that are after it.
+        let chosen = (0..count).filter(|place| choice >> place & 1 == 1);
+        let set: Vec<usize> = chosen.map(|place| forward[place]).collect();
+        let all_ordered = (0..set.len()).all(|i| set[..i].iter().all(|&u| ordered(u, set[i])));
+        if all_ordered {
+            sets.push(set);
+        }
+    }
+    let greatest = sets.iter().map(|set| sum(set)).max().unwrap();
+
+    let run = longest_run(&record::lay_out(count, tree));
+    let jobs: Vec<usize> = run.jobs.iter().map(|&job| job as usize).collect();
+    assert_eq!((run.number, run.places), (0, [0; 4]));
+    assert_eq!(run.total as usize, greatest, "{tree:?}");
+    assert!(sets.contains(&jobs) && sum(&jobs) == greatest, "{tree:?}");
+    for (i, &later) in jobs.iter().enumerate() {
+        assert!(jobs[..i].iter().all(|&earlier| table[earlier][later]));
+    }
+
+    let none_can_join = |set: &&Vec<usize>| {
+        let joins = |job: usize| set.iter().all(|&other| ordered(job, other));
+        sum(set) == greatest && !(0..count).any(joins)
+    };
+    let places = |set: &&Vec<usize>| -> Vec<Option<usize>> {
+        let place = |job: &usize| forward.iter().position(|other| other == job);
+        set.iter().map(place).collect()
+    };
+    let first = sets.iter().filter(none_can_join).min_by_key(places);
+    assert_eq!(Some(&jobs), first, "{tree:?}");
+
+    // The same by each job alone: no side group over it has it in another child
+    // than the first in which the greatest of these sums is found.
+    let greatest_within = |node: &Tree| {
+        let within = node.forward();
+        let inside = sets
+            .iter()
+            .filter(|set| set.iter().all(|job| within.contains(job)));
+        inside.map(|set| sum(set)).max().unwrap()
+    };
+    let mut left_out = vec![false; count];
+    for node in tree.nodes() {
+        let Tree::Side(children) = node else {
+            continue;
+        };
+        let sums: Vec<usize> = children.iter().map(greatest_within).collect();
+        let taken = sums.iter().position(|sum| Some(sum) == sums.iter().max());
+        for (i, child) in children.iter().enumerate() {
+            if Some(i) != taken {
+                child.forward().iter().for_each(|&job| left_out[job] = true);
+            }
+        }
+    }
+    let kept: Vec<usize> = forward.into_iter().filter(|&job| !left_out[job]).collect();
+    assert_eq!(jobs, kept, "{tree:?}");
+}
+
+#[test]
+fn longest_run_of_every_small_record() {
+    // Every choice of these hours for each job.
+    let choices: [&[usize]; 5] = [
+        &[0, 1, 7, 4095],
+        &[0, 1, 2, 3, 4095],
+        &[0, 1, 2, 3],
+        &[0, 1, 2],
+        &[0, 1],
+    ];
+    for count in 1..=5 {
+        let trees = all_trees(&jobs(count)).into_iter();
+        let of = choices[count - 1];
+        for tree in trees.filter(|tree| tree.is_plain(count)) {
+            check_run_by_every_set(&tree, count);
+            for choice in 0..of.len().pow(count as u32) {
+                let each = |job: usize| of[choice / of.len().pow(job as u32) % of.len()];
+                let hours: Vec<usize> = (0..count).map(each).collect();
+                check_run_by_every_set(&with_hours(&tree, &hours), count);
+            }
+        }
+    }
+}
+
+/// Numbers from a seed: the upper bits of a linear congruential generator.
+struct Numbers(u64);
+
+impl Numbers {
+    fn below(&mut self, bound: usize) -> usize {
+        self.0 = self
+            .0
+            .wrapping_mul(6364136223846793005)
+            .wrapping_add(1442695040888963407);
+        (self.0 >> 33) as usize % bound
+    }
+}
+
+/// A plain tree on the jobs, a group of this kind unless there is one job.
+fn some_tree(numbers: &mut Numbers, jobs: &[usize], side: bool) -> Tree {
+    if jobs.len() == 1 {
+        return Tree::Leaf {
+            job: jobs[0],
+            hours: 0,
+        };
+    }
+    let most = 1 + numbers.below(5);
+    let mut cuts: Vec<usize> = (0..most)
+        .map(|_| 1 + numbers.below(jobs.len() - 1))
+        .collect();
+    cuts.extend([0, jobs.len()]);
+    cuts.sort();
+    cuts.dedup();
+    let mut child = |ends: &[usize]| some_tree(numbers, &jobs[ends[0]..ends[1]], !side);
+    let mut children: Vec<Tree> = cuts.windows(2).map(&mut child).collect();
+    if side {
+        children.sort_by_key(Tree::smallest_job);
+        Tree::Side(children)
+    } else {
+        Tree::Chain(children)
+    }
+}
+
+#[test]
+fn longest_run_of_some_records_of_up_to_12_jobs() {
+    let mut numbers = Numbers(3);
+    for round in 0..4000 {
+        let count = 6 + round % 7;
+        let mut jobs = jobs(count);
+        for i in 1..count {
+            jobs.swap(i, numbers.below(i + 1));
+        }
+        let side = numbers.below(2) == 1;
+        let tree = some_tree(&mut numbers, &jobs, side);
+        assert!(tree.is_plain(count));
+        for bound in [1, 2, 3, 10, 4096] {
+            let hours: Vec<usize> = (0..count).map(|_| numbers.below(bound)).collect();
+            check_run_by_every_set(&with_hours(&tree, &hours), count);
+        }
+        check_run_by_every_set(&with_hours(&tree, &vec![4095; count]), count);
     }
 }
 
