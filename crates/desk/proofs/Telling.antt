@@ -8,7 +8,9 @@ use Rattle.analysis.specs.Outcome.{Outcome}
 use Rattle.analysis.specs.Result.{answerOf, Gives}
 use Rattle.analysis.specs.declared.Analysis.{Analysis}
 use Rattle.desk.specs.Packed.{packed, cut}
-use Rattle.desk.specs.Told.{Told}
+use Rattle.longest.specs.Outcome.{RunOutcome, Shows}
+use Rattle.longest.specs.declared.LongestRun.{LongestRun}
+use Rattle.desk.specs.Told.{Told, RunTold}
 use Rattle.desk.proofs.Packing.{Narrow, cut-narrow}
 
 -- an answer read from its number and places in a row
@@ -20,11 +22,24 @@ pub packed-in-row : {a : Answer} {told : List ℕ} → told ≡ numbersOf a → 
 packed-in-row e h = h ∙ ap (λ (l : List ℕ). packed (cut (inRow l))) e
 
 -- the verdict of an outcome, of which nothing is cut off
+
+answer-told : {a b : Answer} {r : ℕ} → a ≡ b → Narrow b → r ≡ packed (cut a) → r ≡ packed b
+answer-told {b = b} e w h = h ∙ ap (λ x. packed (cut x)) e ∙ ap packed (cut-narrow b w)
+
 pub gives-told
     : {o : Outcome} {bytes area bytes′ area′ : List ℕ} {a : Analysis} {r : ℕ} → Gives o bytes area a bytes′ area′ → Narrow (o .verdict)
     → r ≡ packed (cut (answerOf (a .verdict))) → Told o bytes area r bytes′ area′
-gives-told {o = o} g w h = record {
-  answers = h ∙ ap (λ x. packed (cut x)) (g .answers) ∙ ap packed (cut-narrow (o .verdict) w);
+gives-told g w h = record {
+  answers = answer-told (g .answers) w h;
   record-is = g .record-is;
   arcs-are = g .arcs-are;
+}
+
+pub shows-told : {o : RunOutcome} {a : LongestRun} {r : ℕ} → Shows o a → Narrow (o .verdict) → r ≡ packed (cut (answerOf (a .verdict)))
+    → RunTold o (record { answer = r; total = a .total; count = a .count; jobs = a .jobs })
+shows-told s w h = record {
+  answers = answer-told (s .answers) w h;
+  total-is = s .total-is;
+  count-is = s .count-is;
+  jobs-are = s .jobs-are;
 }

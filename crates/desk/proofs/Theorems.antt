@@ -4,8 +4,9 @@ use mathlib.Core.Path.{_≡_}
 use mathlib.Core.List.{List}
 use Rattle.record.specs.Bits.{AllBelow}
 use Rattle.analysis.specs.Outcome.{Rooms, sheetOutcome, recordOutcome}
+use Rattle.longest.specs.Outcome.{runOutcome}
 use Rattle.desk.specs.Packed.{packed, unpacked}
-use Rattle.desk.proofs.Bounds.{sheet-narrow, record-narrow}
+use Rattle.desk.proofs.Bounds.{sheet-narrow, record-narrow, run-narrow}
 use Rattle.desk.proofs.Packing.{unpacked-packed}
 
 pub unpacked-sheet : (rooms : Rooms) (s : List ℕ) → unpacked (packed (sheetOutcome rooms s .verdict)) ≡ sheetOutcome rooms s .verdict
@@ -14,3 +15,6 @@ unpacked-sheet rooms s = unpacked-packed (sheetOutcome rooms s .verdict) (sheet-
 pub unpacked-record
     : (room : ℕ) (bytes : List ℕ) → AllBelow 256 bytes → unpacked (packed (recordOutcome room bytes .verdict)) ≡ recordOutcome room bytes .verdict
 unpacked-record room bytes below = unpacked-packed (recordOutcome room bytes .verdict) (record-narrow room bytes below)
+
+pub unpacked-run : (bytes : List ℕ) → unpacked (packed (runOutcome bytes .verdict)) ≡ runOutcome bytes .verdict
+unpacked-run bytes = unpacked-packed (runOutcome bytes .verdict) (run-narrow bytes)

@@ -2,12 +2,22 @@
 use Prim.Native.Nat.{ℕ}
 use mathlib.Core.Path.{_≡_}
 use mathlib.Core.List.{List}
-use Rattle.poset.specs.Areas.{overlay, arcBytes}
+use lib.ListN.{length}
+use Rattle.poset.specs.Areas.{overlay, padded, arcBytes}
 use Rattle.analysis.specs.Outcome.{Outcome}
+use Rattle.longest.specs.Outcome.{RunOutcome}
 use Rattle.desk.specs.Packed.{packed}
+use Rattle.desk.specs.declared.Run.{Run}
 
 -- the answer as one number, and both areas after the call
 pub record Told (o : Outcome) (bytes area : List ℕ) (r : ℕ) (bytes′ area′ : List ℕ) : Type 0 where
   pub answers : r ≡ packed (o .verdict)
   pub record-is : bytes′ ≡ overlay (o .bytes) bytes
   pub arcs-are : area′ ≡ overlay (arcBytes (o .arcs)) area
+
+-- the answer as one number, the total, how many jobs, and these in the first entries of 128, the others 0
+pub record RunTold (o : RunOutcome) (r : Run) : Type 0 where
+  pub answers : r .answer ≡ packed (o .verdict)
+  pub total-is : r .total ≡ o .total
+  pub count-is : r .count ≡ length (o .jobs)
+  pub jobs-are : r .jobs ≡ padded (o .jobs)

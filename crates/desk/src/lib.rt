@@ -1,11 +1,12 @@
-//! The planning desk's calls, for C: an answer is one number, and there are no sequences and no hours.
+//! The planning desk's calls, for C: an answer is one number. An analysis hands back no sequences and no hours.
 pub mod answer;
 
 ghost use mathlib.Core.List.{[]};
 ghost use lib.ListN.{length};
 ghost use Rattle.analysis.specs.Outcome.{sheetOutcome, recordOutcome};
 ghost use Rattle.analysis.specs.Result.{rooms};
-ghost use Rattle.desk.specs.Told.{Told};
+ghost use Rattle.longest.specs.Outcome.{runOutcome};
+ghost use Rattle.desk.specs.Told.{Told, RunTold};
 
 // The analysis of a sheet: the record and the reduced orders into the two areas.
 #[no_mangle]
@@ -27,4 +28,29 @@ pub extern "C" fn ordersheet_read(bytes: &[u8], area: &mut [u8]) -> u64
     let found = analysis::analyse_record(bytes, area);
     let verdict = found.verdict;
     answer::packed(verdict)
+}
+
+// The longest run: its answer, the total of hours, how many jobs it has, and these, earliest first, then zeros.
+#[repr(C)]
+pub struct Run {
+    pub answer: u64,
+    pub total: u64,
+    pub count: u64,
+    pub jobs: [u8; 128],
+}
+
+// The longest run of work of a record.
+#[no_mangle]
+pub extern "C" fn ordersheet_longest_run(bytes: &[u8]) -> Run
+    ensures { λ r. ⌜ RunTold (runOutcome (now (bytes .entry))) r ⌝ }
+{
+    let found = longest::longest_run(bytes);
+    let verdict = found.verdict;
+    let jobs = found.jobs;
+    Run {
+        answer: answer::packed(verdict),
+        total: found.total as u64,
+        count: found.count as u64,
+        jobs,
+    }
 }
