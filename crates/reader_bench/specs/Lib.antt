@@ -1,0 +1,2 @@
+-- What the entry hands out.
+pub mod Handed
