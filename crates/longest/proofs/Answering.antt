@@ -24,12 +24,10 @@ use Rattle.analysis.specs.declared.Verdict.the-variants as verdict
 use Rattle.analysis.proofs.Times.{entry-padded, padded-below}
 use Rattle.longest.specs.Longest.{Stretch, longest}
 use Rattle.longest.specs.Outcome.{runOutcome, Shows}
-use Rattle.longest.specs.Stack.{Fits, Listed, Found, Linked, Shown}
-use Rattle.longest.specs.declared.LongestRun.{LongestRun}
+use Rattle.longest.specs.Stack.{Listed, Found, Linked, Shown}
 use Rattle.longest.specs.declared.stack.Run.{Run}
 use Rattle.longest.specs.declared.showing.Showing.{Showing}
-use Rattle.longest.proofs.Longest.{longest-short}
-use Rattle.longest.proofs.Stacking.{run-of-leaves}
+use Rattle.longest.proofs.Measures.{run-short, run-of-leaves}
 
 -- what was read is of the tree that the bytes decode to
 pub record Decoded (bytes : List ℕ) (x : NodeList) : Type 0 where
@@ -102,10 +100,10 @@ module _ {bytes : List ℕ} {x : NodeList} (d : Decoded bytes x) where
   linked next r found =
       record {
         strand = found .strand;
-        once = λ u. omega (arith, run-of-leaves (hoursOf (x .hours)) u (d .tree), once u);
+        once = λ u. omega (arith, run-of-leaves u (hoursOf (x .hours)) (d .tree), once u);
         small = (
-          λ u m. small .0 u (count-mem u (leaves (d .tree)) (omega (arith, mem-count m, run-of-leaves (hoursOf (x .hours)) u (d .tree)))),
-          omega (arith, longest-short (hoursOf (x .hours)) (d .tree), small .1),
+          λ u m. small .0 u (count-mem u (leaves (d .tree)) (omega (arith, mem-count m, run-of-leaves u (hoursOf (x .hours)) (d .tree)))),
+          omega (arith, run-short (hoursOf (x .hours)) (d .tree), small .1),
         );
       }
 

@@ -1,20 +1,18 @@
 -- Runs on a stack.
 use Prim.Native.Nat.{ℕ, suc, _+_, _≤_, _<_}
 use mathlib.Core.Path.{_≡_, refl, sym, ap, subst, _∙_}
-use mathlib.Core.List.{List, [], _∷_, _++_, flatMap, append-nil, List·Memᴰ, Memᴰ·append-left, Memᴰ·append-right}
-use mathlib.Core.Bool.{true, false}
-use mathlib.Core.Logic.{⊎-elim}
+use mathlib.Core.List.{List, [], _∷_, _++_, flatMap, List·Memᴰ, Memᴰ·append-left, Memᴰ·append-right}
 use native.Mathlib.Omega.{arith}
-use lib.Dec.{ltb}
 use lib.ListN.{length, getD, take, drop, set, take-append-drop, length-set}
 use lib.Seq.{split-at, take-suc, length-take-le, getD-set-same, getD-set-other}
 use Rattle.poset.specs.Lists.{occurrences, sum}
-use Rattle.poset.specs.Tree.{Kind, series, parallel}
-use Rattle.poset.proofs.Laws.{decided, count-append, flatMap-append}
+use Rattle.poset.specs.Tree.{Kind, series}
+use Rattle.poset.proofs.Laws.{count-append, flatMap-append}
 use Rattle.reader.specs.Parts.{Strand}
 use Rattle.reader.proofs.Strands.{strand-kept}
 use Rattle.longest.specs.Longest.{Stretch, joinedRuns}
 use Rattle.longest.specs.Stack.{Runs, runs, Sized, Entry, Entries, SameFrom, jobsOf, runOf}
+use Rattle.longest.proofs.Measures.{counts, joined-measure}
 
 further : {at : ℕ} {w v : Runs} → SameFrom at w v → SameFrom (suc at) w v
 further s =
@@ -45,7 +43,7 @@ entries-kept at [] same once next e = tt
 entries-kept at (a ∷ rs) same once next e = (
   entry-kept at a same (λ u. omega (arith, once u, count-append u (a .1) (jobsOf rs))) (λ u m. next u (Memᴰ·append-left (jobsOf rs) m)) (e .0),
   entries-kept (suc at) rs (further same) (λ u. omega (arith, once u, count-append u (a .1) (jobsOf rs)))
-  (λ u m. next u (Memᴰ·append-right (a .1) m)) (e .1),
+      (λ u m. next u (Memᴰ·append-right (a .1) m)) (e .1),
 )
 
 pub entries-append : (w : Runs) (at : ℕ) (rs ss : List Stretch) → Entries w at (rs ++ ss) → Entries w at rs × Entries w (at + length rs) ss
@@ -118,21 +116,12 @@ pub run-more : (k : Kind) (a : Stretch) (rs : List Stretch) → 0 < length rs �
 run-more k a [] l = absurd (omega arith)
 run-more k a (b ∷ rs) l = refl
 
-pub joined-count : (k : Kind) (a b : Stretch) (u : ℕ) → occurrences u (joinedRuns k a b .1) ≤ occurrences u (a .1) + occurrences u (b .1)
-unfolding joinedRuns
-joined-count series a b u = omega (arith, count-append u (a .1) (b .1))
-joined-count parallel a b u =
-    ⊎-elim
-    (λ (e : ltb (a .0) (b .0) ≡ true). rw e (omega arith))
-    (λ (e : ltb (a .0) (b .0) ≡ false). rw e (omega arith))
-    (decided (ltb (a .0) (b .0)))
-
 pub run-count : (k : Kind) (rs : List Stretch) (u : ℕ) → occurrences u (runOf k rs .1) ≤ occurrences u (jobsOf rs)
 unfolding flatMap
 run-count k [] u = omega arith
 run-count k (a ∷ []) u = omega (arith, count-append u (a .1) [])
 run-count k (a ∷ b ∷ rs) u =
-    omega (arith, joined-count k a (runOf k (b ∷ rs)) u, run-count k (b ∷ rs) u, count-append u (a .1) (jobsOf (b ∷ rs)))
+    omega (arith, joined-measure (λ x. occurrences u (x .1)) (counts u) k a (runOf k (b ∷ rs)), run-count k (b ∷ rs) u, count-append u (a .1) (jobsOf (b ∷ rs)))
 
 pub series-total : (rs : List Stretch) → runOf series rs .0 ≡ sum (λ (a : Stretch). a .0) rs
 unfolding joinedRuns

@@ -1,12 +1,12 @@
 -- The runs of a group's children made into one, from the last child to the first.
-use Prim.Native.Nat.{ℕ, zero, suc, _+_, _-_, _*_, _≤_, _<_}
+use Prim.Native.Nat.{ℕ, suc, _+_, _-_, _*_, _≤_, _<_}
 use mathlib.Core.Path.{_≡_, refl, sym, ap, subst, _∙_}
-use mathlib.Core.List.{List, [], _∷_, _++_, flatMap, List·Memᴰ}
+use mathlib.Core.List.{List, [], _∷_, List·Memᴰ}
 use mathlib.Core.Bool.{Bool, true, false, cond}
 use native.Mathlib.Omega.{arith}
 use lib.Dec.{ltb}
 use lib.ListN.{length, getD, take, drop, set, take-append-drop, length-set, drop-of-length-le}
-use lib.Seq.{take-suc, drop-cons, getD-set-same, getD-set-other, set-getD, length-take-le, getD-take}
+use lib.Seq.{take-suc, drop-cons, getD-set-other, set-getD}
 use Rattle.poset.specs.Lists.{occurrences, sum}
 use Rattle.poset.specs.Tree.{Kind, series, parallel}
 use Rattle.poset.proofs.Laws.{false-unless, ltb-true, lt-true, mem-count, count-mem}
@@ -14,7 +14,7 @@ use Rattle.record.specs.Layout.{mostHours}
 use Rattle.reader.specs.Parts.{Strand}
 use Rattle.reader.proofs.Strands.{strand-last, strand-link}
 use Rattle.longest.specs.Longest.{Stretch, joinedRuns}
-use Rattle.longest.specs.Stack.{Runs, runs, Sized, Entry, Entries, SameFrom, jobsOf, runOf, Beside, Joined}
+use Rattle.longest.specs.Stack.{Runs, runs, Entry, Entries, jobsOf, runOf, Beside, Joined}
 use Rattle.longest.proofs.Sums.{sum-append}
 use Rattle.longest.proofs.Entries.{noRun, entries-kept, entry-put, entries-snoc, entry-at, jobs-parted, run-more, run-count, series-total}
 

@@ -1,8 +1,9 @@
 -- The heaviest set of jobs that stand to each other as the children of a group of kind d do: for a series these are chains, for a parallel
 -- group antichains. Groups of kind d add, those of the other kind take the first child with the greatest total.
-use Prim.Native.Nat.{ℕ, _+_, _≤_, _<_}
-use mathlib.Core.Path.{_≡_, refl, sym, ap, ap₂, subst, _∙_}
-use mathlib.Core.List.{List, [], _∷_, _++_, List·Memᴰ, List·Memᴰ·head, List·Memᴰ·tail, List·Memᴰ·not-nil, List·Memᴰ·cases-cons, List·Memᴰ·append-cases, List·Memᴰ·eq-of-singleton}
+use Prim.Native.Nat.{ℕ, _+_, _≤_}
+use mathlib.Core.Path.{_≡_, refl, sym, ap, _∙_}
+use mathlib.Core.List.{List, [], _∷_, _++_, List·Memᴰ, List·Memᴰ·head, List·Memᴰ·tail, List·Memᴰ·not-nil, List·Memᴰ·cases-cons}
+use mathlib.Core.List.{List·Memᴰ·append-cases, List·Memᴰ·eq-of-singleton}
 use mathlib.Core.Bool.{Bool, true, false, cond}
 use mathlib.Core.Logic.{_⊎_, inl, inr, ⊎-elim}
 use native.Mathlib.Decide.{decLe}
@@ -10,7 +11,7 @@ use native.Mathlib.Omega.{arith}
 use lib.Dec.{ltb}
 use Rattle.poset.specs.Lists.{exists, member, occurrences, sum}
 use Rattle.poset.specs.Order.{Rel}
-use Rattle.poset.specs.Tree.{Kind, series, parallel, Tree, leaf, node, Forest, last, more, leaves, forestLeaves, Means}
+use Rattle.poset.specs.Tree.{Kind, series, parallel, Tree, leaf, node, Forest, last, more, leaves, forestLeaves}
 use Rattle.poset.proofs.Laws.{decided, clash, false-unless, any-found, any-miss, ltb-true, lt-true, member-mem}
 use Rattle.poset.proofs.Standing.{near, other, Stands, near-sym, stands-near, stands-apart, stands-differ}
 use Rattle.poset.proofs.Shape.{In, InForest, InGroup, leaves-in, forestLeaves-in, in-leaves, Across, Good, GoodForest}
@@ -36,16 +37,18 @@ data Grows (r : Rel) (d k : Kind) (a b : Stretch) : Stretch → Type 0 where
   first : ((u v : ℕ) → Stands k r u v → near (other d) r u v ≡ true → ⊥) → b .0 ≤ a .0 → Grows r d k a b a
   second : ((u v : ℕ) → Stands k r u v → near (other d) r u v ≡ true → ⊥) → a .0 ≤ b .0 → Grows r d k a b b
 
-picks : (r : Rel) (d k : Kind) (a b : Stretch) → ((u v : ℕ) → Stands k r u v → near (other d) r u v ≡ true → ⊥) → Grows r d k a b (joinedRuns parallel a b)
+pub not-less : (m n : ℕ) → ltb m n ≡ false → n ≤ m
+not-less m n e = elim (decLe n m) [ yes l ↦ l | no l ↦ absurd (clash (lt-true m n (omega arith)) e) ]
+
+picks
+    : (r : Rel) (d k : Kind) (a b : Stretch) → ((u v : ℕ) → Stands k r u v → near (other d) r u v ≡ true → ⊥)
+    → Grows r d k a b (joinedRuns parallel a b)
 unfolding joinedRuns
 picks r d k a b no-two =
     ⊎-elim
     (λ (e : ltb (a .0) (b .0) ≡ true). rw e (second no-two (omega (arith, ltb-true (a .0) (b .0) e))))
-    (λ (e : ltb (a .0) (b .0) ≡ false). rw e (first no-two (fewer e)))
+    (λ (e : ltb (a .0) (b .0) ≡ false). rw e (first no-two (not-less (a .0) (b .0) e)))
     (decided (ltb (a .0) (b .0)))
-  where
-    fewer : ltb (a .0) (b .0) ≡ false → b .0 ≤ a .0
-    fewer e = elim (decLe (b .0) (a .0)) [ yes l ↦ l | no l ↦ absurd (clash (lt-true (a .0) (b .0) (omega arith)) e) ]
 
 grows : (r : Rel) (d k : Kind) (a b : Stretch) → Grows r d k a b (grown d k a b)
 unfolding joinedRuns
@@ -82,7 +85,11 @@ module _ (d : Kind) (r : Rel) (w : ℕ → ℕ) where
   group-attained k t f a b (adds alike) across x y =
       record {
         total = omega (arith, sum-append w (a .1) (b .1), x .total, y .total);
-        inside = λ u m. ⊎-elim (λ (i : List·Memᴰ u (a .1)). inl (x .inside u i)) (λ (i : List·Memᴰ u (b .1)). inr (y .inside u i)) (List·Memᴰ·append-cases (a .1) m);
+        inside = λ u m.
+            ⊎-elim
+            (λ (i : List·Memᴰ u (a .1)). inl (x .inside u i))
+            (λ (i : List·Memᴰ u (b .1)). inr (y .inside u i))
+            (List·Memᴰ·append-cases (a .1) m);
         laid = laid-append d r (a .1) (b .1) (x .laid) (y .laid) (λ u v p q. alike u v (across u v (x .inside u p) (y .inside v q)));
       }
   group-attained k t f a b (first no-two l) across x y = wider (λ u i. inl i) x

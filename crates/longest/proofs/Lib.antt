@@ -1,9 +1,14 @@
 pub mod Sums
 pub mod Heaviest
 pub mod Longest
+pub mod Measures
 pub mod Entries
 pub mod Folding
 pub mod Stacking
 pub mod Pending
 pub mod Listing
 pub mod Answering
+pub mod Records
+pub mod Sheets
+pub mod Examples
+pub mod Theorems

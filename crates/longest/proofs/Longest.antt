@@ -1,22 +1,20 @@
 -- The longest run: a chain of that sum, and no chain has more.
-use Prim.Native.Nat.{ℕ, _+_, _*_, _≤_, _<_}
-use mathlib.Core.Path.{_≡_, refl, sym, ap, ap₂, subst, _∙_}
-use mathlib.Core.List.{List, [], _∷_, _++_, flatMap, List·Memᴰ, List·Memᴰ·head, List·Memᴰ·not-nil, List·Memᴰ·cases-cons, List·Memᴰ·append-cases, append-nil}
+use Prim.Native.Nat.{ℕ, _+_, _≤_, _<_}
+use mathlib.Core.Path.{_≡_, refl, sym, ap, ap₂}
+use mathlib.Core.List.{List, [], _∷_, _++_, flatMap, List·Memᴰ, List·Memᴰ·not-nil}
+use mathlib.Core.List.{List·Memᴰ·cases-cons, List·Memᴰ·append-cases, append-nil}
 use mathlib.Core.Logic.{⊎-elim}
 use mathlib.Core.Bool.{true, false}
-use native.Mathlib.Nat.{mul-add, mul-one}
-use native.Mathlib.Decide.{decLe}
 use lib.Dec.{ltb}
-use lib.ListN.{length, length-append}
 use native.Mathlib.Omega.{arith}
 use Rattle.poset.specs.Lists.{sum}
 use Rattle.poset.specs.Order.{Rel}
-use Rattle.poset.specs.Tree.{Kind, series, parallel, Tree, leaf, node, Forest, last, more, leaves, forestLeaves, Means}
-use Rattle.poset.proofs.Laws.{decided, clash, ltb-true, lt-true}
+use Rattle.poset.specs.Tree.{Kind, series, parallel, Tree, leaf, node, Forest, last, more, Means}
+use Rattle.poset.proofs.Laws.{decided, ltb-true}
 use Rattle.poset.proofs.Meaning.{means-fits}
-use Rattle.longest.specs.Chains.{Chain, InOrder, empty, next}
+use Rattle.longest.specs.Chains.{InOrder, empty, next, IsLongest}
 use Rattle.longest.specs.Longest.{Stretch, joinedRuns, longest, forestLongest, trees, FirstGreatest}
-use Rattle.longest.proofs.Heaviest.{heaviest, forestHeaviest, Laid, Attained, attained, laid-distinct, laid-near, not-heavier}
+use Rattle.longest.proofs.Heaviest.{heaviest, forestHeaviest, Laid, Attained, not-less, attained, laid-distinct, laid-near, not-heavier}
 
 mutual
   unfolding longest
@@ -40,24 +38,22 @@ module _ (n : ℕ) (r : Rel) (t : Tree) (means : Means n t r) (hours : ℕ → �
       let a = attained series r hours t (fits .good) in
       rw (longest-heaviest hours t) (record { total = a .total; inside = λ u m. fits .holds .inside u (a .inside u m); laid = a .laid })
 
-  pub longest-total : sum hours (longest hours t .1) ≡ longest hours t .0
-  longest-total = shown .total
-
-  pub longest-in-order : InOrder r (longest hours t .1)
-  longest-in-order = laid-in-order r (longest hours t .1) (shown .laid)
-
-  pub longest-chain : Chain n r (longest hours t .1)
-  longest-chain =
+  pub longest-is : IsLongest n r hours (longest hours t .0) (longest hours t .1)
+  longest-is =
       record {
-        inside = shown .inside;
-        once = laid-distinct series r hours (longest hours t .1) (shown .laid);
-        ordered = laid-near series r hours (longest hours t .1) (shown .laid);
+        together = shown .total;
+        chain =
+            record {
+              inside = shown .inside;
+              once = laid-distinct series r hours (longest hours t .1) (shown .laid);
+              ordered = laid-near series r hours (longest hours t .1) (shown .laid);
+            };
+        in-order = laid-in-order r (longest hours t .1) (shown .laid);
+        greatest = λ jobs c.
+            let fits = means-fits n r t means in
+            rw (longest-heaviest hours t)
+            (not-heavier series r hours t (fits .good) jobs (c .once) (λ u m. fits .holds .outside u (c .inside u m)) (c .ordered));
       }
-
-  pub longest-greatest : (jobs : List ℕ) → Chain n r jobs → sum hours jobs ≤ longest hours t .0
-  longest-greatest jobs c =
-      let fits = means-fits n r t means in
-      rw (longest-heaviest hours t) (not-heavier series r hours t (fits .good) jobs (c .once) (λ u m. fits .holds .outside u (c .inside u m)) (c .ordered))
 
 -- a chain adds its children's runs, a side group takes its first child with the greatest total
 
@@ -109,10 +105,8 @@ one-more hours t cs b (c, first, is) =
     ))
     (decided (ltb (longest hours t .0) (b .0)))
   where
-    not-less : (m n : ℕ) → ltb m n ≡ false → n ≤ m
-    not-less m n e = elim (decLe n m) [ yes l ↦ l | no l ↦ absurd (clash (lt-true m n (omega arith)) e) ]
-
-    within : (x : Tree) → List·Memᴰ x (first .ahead ++ c ∷ first .behind) → longest hours c .0 ≤ longest hours t .0 → longest hours x .0 ≤ longest hours t .0
+    within : (x : Tree) → List·Memᴰ x (first .ahead ++ c ∷ first .behind) → longest hours c .0 ≤ longest hours t .0
+        → longest hours x .0 ≤ longest hours t .0
     within x m l =
         ⊎-elim
         (λ (i : List·Memᴰ x (first .ahead)). omega (arith, first .less x i))
@@ -131,54 +125,3 @@ parallel-takes hours (last t) = (
   refl,
 )
 parallel-takes hours (more t f) = one-more hours t (trees f) (forestLongest hours parallel f) (parallel-takes hours f)
-
--- how large the results can be, for code
-
-joined-small : (m : ℕ) (k : Kind) (a b : Stretch) (x y : ℕ) → a .0 ≤ m * x → b .0 ≤ m * y → joinedRuns k a b .0 ≤ m * (x + y)
-unfolding joinedRuns
-joined-small m series a b x y p q = omega (arith, mul-add m x y)
-joined-small m parallel a b x y p q =
-    ⊎-elim
-    (λ (e : ltb (a .0) (b .0) ≡ true). rw e (omega (arith, mul-add m x y)))
-    (λ (e : ltb (a .0) (b .0) ≡ false). rw e (omega (arith, mul-add m x y)))
-    (decided (ltb (a .0) (b .0)))
-
-joined-short : (k : Kind) (a b : Stretch) (x y : ℕ) → length (a .1) ≤ x → length (b .1) ≤ y → length (joinedRuns k a b .1) ≤ x + y
-unfolding joinedRuns
-joined-short series a b x y p q = omega (arith, length-append (a .1) (b .1))
-joined-short parallel a b x y p q =
-    ⊎-elim
-    (λ (e : ltb (a .0) (b .0) ≡ true). rw e (omega arith))
-    (λ (e : ltb (a .0) (b .0) ≡ false). rw e (omega arith))
-    (decided (ltb (a .0) (b .0)))
-
-module _ (m : ℕ) (hours : ℕ → ℕ) (most : (u : ℕ) → hours u ≤ m) where
-  mutual
-    unfolding longest leaves
-
-    pub longest-small : (t : Tree) → longest hours t .0 ≤ m * length (leaves t)
-    longest-small (leaf j) = omega (arith, most j, mul-one m)
-    longest-small (node k t f) =
-        rw (length-append (leaves t) (forestLeaves f))
-        (joined-small m k (longest hours t) (forestLongest hours k f) (length (leaves t)) (length (forestLeaves f)) (longest-small t) (forestLongest-small k f))
-
-    pub forestLongest-small : (k : Kind) (f : Forest) → forestLongest hours k f .0 ≤ m * length (forestLeaves f)
-    forestLongest-small k (last t) = longest-small t
-    forestLongest-small k (more t f) =
-        rw (length-append (leaves t) (forestLeaves f))
-        (joined-small m k (longest hours t) (forestLongest hours k f) (length (leaves t)) (length (forestLeaves f)) (longest-small t) (forestLongest-small k f))
-
-mutual
-  unfolding longest leaves
-
-  pub longest-short : (hours : ℕ → ℕ) (t : Tree) → length (longest hours t .1) ≤ length (leaves t)
-  longest-short hours (leaf j) = omega arith
-  longest-short hours (node k t f) =
-      rw (length-append (leaves t) (forestLeaves f))
-      (joined-short k (longest hours t) (forestLongest hours k f) (length (leaves t)) (length (forestLeaves f)) (longest-short hours t) (forestLongest-short hours k f))
-
-  pub forestLongest-short : (hours : ℕ → ℕ) (k : Kind) (f : Forest) → length (forestLongest hours k f .1) ≤ length (forestLeaves f)
-  forestLongest-short hours k (last t) = longest-short hours t
-  forestLongest-short hours k (more t f) =
-      rw (length-append (leaves t) (forestLeaves f))
-      (joined-short k (longest hours t) (forestLongest hours k f) (length (leaves t)) (length (forestLeaves f)) (longest-short hours t) (forestLongest-short hours k f))

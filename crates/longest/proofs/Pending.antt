@@ -6,7 +6,7 @@ use native.Mathlib.Omega.{arith}
 use lib.ListN.{length, getD, replicate, length-append}
 use lib.Seq.{getD-take}
 use Rattle.poset.specs.Lists.{occurrences}
-use Rattle.poset.specs.Tree.{Kind, Tree, leaf, node, Forest, last, more, leaves, forestLeaves}
+use Rattle.poset.specs.Tree.{Tree, leaf, node, Forest, last, more, leaves, forestLeaves}
 use Rattle.poset.proofs.Laws.{count-append, flatMap-append}
 use Rattle.record.proofs.Sizes.{Small, small-right, groups-lt}
 use Rattle.record.proofs.Tokens.{tokens-length}
@@ -57,11 +57,15 @@ pending-end (one-more step s) = pending-end s
 step-fits : {x : ℕ} {ts us : List Tree} → Step x ts us → Fits us → Fits ts
 unfolding leaves flatMap
 step-fits {ts = ts} (one-leaf j) fits =
-    record { once = λ u. omega (arith, fits .once u, count-append u (j ∷ []) (flatMap leaves ts)); small = small-right (j ∷ []) (flatMap leaves ts) (fits .small) }
+    record {
+      once = λ u. omega (arith, fits .once u, count-append u (j ∷ []) (flatMap leaves ts));
+      small = small-right (j ∷ []) (flatMap leaves ts) (fits .small);
+    }
 step-fits (one-group {rest} k t f) fits =
     let same : flatMap leaves (node k t f ∷ rest) ≡ flatMap leaves (t ∷ trees f ++ rest) =
     append-assoc (leaves t) (forestLeaves f) (flatMap leaves rest)
-    ∙ ap (λ (l : List ℕ). leaves t ++ l) (ap (λ (l : List ℕ). l ++ flatMap leaves rest) (sym (trees-leaves f)) ∙ sym (flatMap-append leaves (trees f) rest)) in
+    ∙ ap (λ (l : List ℕ). leaves t ++ l)
+    (ap (λ (l : List ℕ). l ++ flatMap leaves rest) (sym (trees-leaves f)) ∙ sym (flatMap-append leaves (trees f) rest)) in
     record { once = λ u. subst (λ (l : List ℕ). occurrences u l ≤ 1) same (fits .once u); small = subst Small same (fits .small) }
 
 pub fits-at : {xs : List ℕ} {us : List Tree} (i : ℕ) (s : Spells xs us) → Fits us → Fits (pending i s)
@@ -97,7 +101,8 @@ module _ (t : Tree) (list : List ℕ) (count : ℕ) (l : Listed t list count) wh
 
   -- at the first node the tree's run is on top
   pub row-found : (hours : ℕ → ℕ) (i top : ℕ) (w : Runs) → i ≤ 0 → Stacked hours (pending i (spells t)) top w
-      → (top < 128) × Found (longest hours t) (w .next) (record { total = getD (w .totals) top 0; first = getD (w .firsts) top 0; last = getD (w .lasts) top 0 })
+      → (top < 128)
+      × Found (longest hours t) (w .next) (record { total = getD (w .totals) top 0; first = getD (w .firsts) top 0; last = getD (w .lasts) top 0 })
   row-found hours i top w first s =
       let zero-th : i ≡ 0 = omega arith in
       let whole : Stacked hours (t ∷ []) top w = subst (λ (n : ℕ). Stacked hours (pending n (spells t)) top w) zero-th s in

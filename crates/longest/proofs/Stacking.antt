@@ -1,24 +1,22 @@
 -- One node more on the stack of runs.
-use Prim.Native.Nat.{ℕ, suc, _+_, _-_, _*_, _%_, _^_, _≤_, _<_}
-use mathlib.Core.Path.{_≡_, refl, sym, ap, ap₂, subst, _∙_}
-use mathlib.Core.List.{List, [], _∷_, _++_, map, flatMap, append-nil, List·Memᴰ, List·Memᴰ·head}
-use native.Mathlib.Nat.{mul-add}
+use Prim.Native.Nat.{ℕ, suc, _+_, _-_, _%_, _^_, _≤_, _<_}
+use mathlib.Core.Path.{_≡_, refl, ap, subst}
+use mathlib.Core.List.{List, [], _∷_, _++_, map, flatMap, append-nil, List·Memᴰ·head}
 use native.Mathlib.Omega.{arith}
 use lib.ListN.{length, set, length-append, length-map}
-use Rattle.poset.specs.Lists.{occurrences, sum}
+use Rattle.poset.specs.Lists.{occurrences}
 use Rattle.poset.specs.Tree.{Kind, series, parallel, Tree, leaf, node, Forest, last, more, leaves, forestLeaves}
-use Rattle.poset.proofs.Laws.{count-append, flatMap-append, mem-count, count-mem}
+use Rattle.poset.proofs.Laws.{count-append, mem-count, count-mem}
 use Rattle.record.specs.Bits.{AllBelow}
 use Rattle.record.specs.Layout.{hoursBits, mostHours, kindBit, moreChildren, hoursOf}
 use Rattle.record.proofs.Entries.{entry-below}
-use Rattle.record.proofs.Sizes.{Small, small-right, kind-below, groups-lt}
-use Rattle.reader.specs.Parts.{Strand, alone}
+use Rattle.record.proofs.Sizes.{kind-below, groups-lt}
+use Rattle.reader.specs.Parts.{alone}
 use Rattle.record.specs.Tokens.{groupToken}
-use Rattle.longest.specs.Longest.{Stretch, joinedRuns, longest, forestLongest, trees}
-use Rattle.longest.specs.Stack.{Step, one-leaf, one-group, Fits, Runs, runs, Sized, Entry, Entries, SameFrom, jobsOf, runOf, Beside, Joined, Stacked}
-use Rattle.longest.proofs.Sums.{sum-append}
-use Rattle.longest.proofs.Longest.{longest-small}
-use Rattle.longest.proofs.Entries.{entries-kept, entries-append, entry-put, run-more, joined-count}
+use Rattle.longest.specs.Longest.{Stretch, joinedRuns, longest, trees}
+use Rattle.longest.specs.Stack.{Step, one-leaf, one-group, Fits, Runs, runs, Entry, Entries, runOf, Beside, Joined, Stacked}
+use Rattle.longest.proofs.Measures.{runs-small, runs-of-leaves}
+use Rattle.longest.proofs.Entries.{entries-kept, entries-append, entry-put}
 
 -- the trees of a forest
 
@@ -36,62 +34,8 @@ map-append : (f : Tree → Stretch) (ts us : List Tree) → map f (ts ++ us) ≡
 map-append f [] us = refl
 map-append f (t ∷ ts) us = ap (λ (l : List Stretch). f t ∷ l) (map-append f ts us)
 
--- a run has jobs of its tree, each at most as often
-
-module _ (hours : ℕ → ℕ) (u : ℕ) where
-  mutual
-    unfolding longest leaves
-
-    pub run-of-leaves : (t : Tree) → occurrences u (longest hours t .1) ≤ occurrences u (leaves t)
-    run-of-leaves (leaf j) = omega arith
-    run-of-leaves (node k t f) =
-        omega (
-          arith,
-          joined-count k (longest hours t) (forestLongest hours k f) u,
-          run-of-leaves t,
-          run-of-forest k f,
-          count-append u (leaves t) (forestLeaves f),
-        )
-
-    run-of-forest : (k : Kind) (f : Forest) → occurrences u (forestLongest hours k f .1) ≤ occurrences u (forestLeaves f)
-    run-of-forest k (last t) = run-of-leaves t
-    run-of-forest k (more t f) =
-        omega (
-          arith,
-          joined-count k (longest hours t) (forestLongest hours k f) u,
-          run-of-leaves t,
-          run-of-forest k f,
-          count-append u (leaves t) (forestLeaves f),
-        )
-
-  pub runs-of-leaves : (ts : List Tree) → occurrences u (jobsOf (map (longest hours) ts)) ≤ occurrences u (flatMap leaves ts)
-  unfolding flatMap
-  runs-of-leaves [] = omega arith
-  runs-of-leaves (t ∷ ts) =
-      omega (
-        arith,
-        run-of-leaves t,
-        runs-of-leaves ts,
-        count-append u (longest hours t .1) (jobsOf (map (longest hours) ts)),
-        count-append u (leaves t) (flatMap leaves ts),
-      )
-
 pub hours-most : (hours : List ℕ) → AllBelow (2 ^ hoursBits) hours → (u : ℕ) → hoursOf hours u ≤ mostHours
 hours-most hours low u = omega (arith, entry-below hours u (2 ^ hoursBits) (omega arith) low)
-
--- the totals of runs are small
-runs-small : (hours : ℕ → ℕ) → ((u : ℕ) → hours u ≤ mostHours) → (ts : List Tree)
-    → sum (λ (a : Stretch). a .0) (map (longest hours) ts) ≤ mostHours * length (flatMap leaves ts)
-unfolding flatMap
-runs-small hours most [] = omega arith
-runs-small hours most (t ∷ ts) =
-    omega (
-      arith,
-      longest-small mostHours hours most t,
-      runs-small hours most ts,
-      length-append (leaves t) (flatMap leaves ts),
-      mul-add mostHours (length (leaves t)) (length (flatMap leaves ts)),
-    )
 
 -- the run of a group is that of its children's runs
 group-run : (hours : ℕ → ℕ) (k : Kind) (t : Tree) (f : Forest) → runOf k (map (longest hours) (t ∷ trees f)) ≡ longest hours (node k t f)
@@ -124,8 +68,8 @@ module _ (hours : ℕ → ℕ) (top : ℕ) (w : Runs) where
           entries = (
             entry,
             entries-kept (suc (top - 1)) (map (longest hours) ts) below
-            (λ u. omega (arith, runs-of-leaves hours u ts, fits .once u, count-append u (j ∷ []) (flatMap leaves ts)))
-            (λ u m. refl) (subst (λ (i : ℕ). Entries w i (map (longest hours) ts)) place (s .entries)),
+                (λ u. omega (arith, runs-of-leaves u hours ts, fits .once u, count-append u (j ∷ []) (flatMap leaves ts)))
+                (λ u m. refl) (subst (λ (i : ℕ). Entries w i (map (longest hours) ts)) place (s .entries)),
           );
         },
       )
@@ -170,9 +114,9 @@ module _ (hours : ℕ → ℕ) (top : ℕ) (w : Runs) where
           last = omega (arith, length-map children (longest hours), trees-length f);
           inside = omega (arith, s .height, length-append (trees f) rest, trees-length f);
           entries = entries-of .0;
-          once = λ u. omega (arith, runs-of-leaves hours u children, parted u, fits .once u);
-          small = λ u m. fits .small .0 u (count-mem u _ (omega (arith, mem-count m, runs-of-leaves hours u children, parted u)));
-          low = omega (arith, runs-small hours most children, few);
+          once = λ u. omega (arith, runs-of-leaves u hours children, parted u, fits .once u);
+          small = λ u m. fits .small .0 u (count-mem u _ (omega (arith, mem-count m, runs-of-leaves u hours children, parted u)));
+          low = omega (arith, runs-small mostHours hours most children, few);
         }
 
     pub group-stacked : (v : Runs) → Joined k (map (longest hours) children) end w v → Stacked hours (node k t f ∷ rest) end v
@@ -183,9 +127,10 @@ module _ (hours : ℕ → ℕ) (top : ℕ) (w : Runs) where
           entries = (
             subst (Entry v end) (group-run hours k t f) (j .entry),
             entries-kept (suc end) (map (longest hours) rest) (j .below)
-            (λ u. omega (arith, runs-of-leaves hours u rest, parted u, fits .once u))
-            (λ u m. j .next-same u (λ i. omega (arith, mem-count m, mem-count i, runs-of-leaves hours u rest, runs-of-leaves hours u children, parted u, fits .once u)))
-            (entries-of .1),
+                (λ u. omega (arith, runs-of-leaves u hours rest, parted u, fits .once u))
+                (λ u m. j .next-same u λ i.
+                omega (arith, mem-count m, mem-count i, runs-of-leaves u hours rest, runs-of-leaves u hours children, parted u, fits .once u))
+                (entries-of .1),
           );
         }
 

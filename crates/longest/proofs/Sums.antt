@@ -7,7 +7,7 @@ use mathlib.Core.Logic.{⊎-elim}
 use native.Mathlib.Omega.{arith}
 use lib.Dec.{eqb}
 use Rattle.poset.specs.Lists.{exists, member, occurrences, sum}
-use Rattle.poset.proofs.Laws.{decided, clash, false-unless, eqb-true, eqb-same, any-yes, any-not, count-same, count-other, mem-count, count-zero, member-mem}
+use Rattle.poset.proofs.Laws.{decided, clash, false-unless, eqb-true, eqb-same, any-yes, any-not, count-same, count-other, mem-count, count-zero, count-append, member-mem}
 use Rattle.poset.proofs.Sums.{sum-le}
 
 module _ {ℓ} {A : Type ℓ} where
@@ -30,15 +30,8 @@ module _ {ℓ} {A : Type ℓ} where
 abbrev pub Distinct : List ℕ → Type 0
 Distinct xs = (u : ℕ) → occurrences u xs ≤ 1
 
-count-cons : (u x : ℕ) (xs : List ℕ) → occurrences u xs ≤ occurrences u (x ∷ xs)
-count-cons u x xs =
-    ⊎-elim
-    (λ (e : eqb u x ≡ true). omega (arith, count-same u x xs (eqb-true u x e)))
-    (λ (e : eqb u x ≡ false). omega (arith, count-other u x xs (λ q. clash (ap (eqb u) (sym q) ∙ eqb-same u) e)))
-    (decided (eqb u x))
-
 pub distinct-tail : (x : ℕ) (xs : List ℕ) → Distinct (x ∷ xs) → Distinct xs
-distinct-tail x xs d u = omega (arith, d u, count-cons u x xs)
+distinct-tail x xs d u = omega (arith, d u, count-append u (x ∷ []) xs)
 
 pub distinct-head : (x : ℕ) (xs : List ℕ) → Distinct (x ∷ xs) → List·Memᴰ x xs → ⊥
 distinct-head x xs d m = omega (arith, d x, count-same x x xs refl, mem-count m)
@@ -52,6 +45,10 @@ distinct-cons x xs new d u =
     omega (arith, count-same u x xs q, ap (λ v. occurrences v xs) q))
     (λ (e : eqb u x ≡ false). omega (arith, d u, count-other u x xs (λ q. clash (ap (eqb u) (sym q) ∙ eqb-same u) e)))
     (decided (eqb u x))
+
+cond-le : (b : Bool) (k : ℕ) → cond b k 0 ≤ k
+cond-le true k = omega arith
+cond-le false k = omega arith
 
 -- a list without repeats whose elements are all in another has no greater sum than they have there
 pub subset-sum : (w : ℕ → ℕ) (xs ys : List ℕ) → Distinct xs → ((u : ℕ) → List·Memᴰ u xs → List·Memᴰ u ys)
@@ -68,7 +65,7 @@ subset-sum w (x ∷ xs) ys d i =
     grows : (u : ℕ) → cond (member u xs) (w u) 0 ≤ cond (member u (x ∷ xs)) (w u) 0
     grows u =
         ⊎-elim
-        (λ (e : eqb u x ≡ true). rw (any-yes (eqb u) x xs e) (⊎-elim (λ (b : member u xs ≡ true). rw b (omega arith)) (λ (b : member u xs ≡ false). rw b (omega arith)) (decided (member u xs))))
+        (λ (e : eqb u x ≡ true). rw (any-yes (eqb u) x xs e) (cond-le (member u xs) (w u)))
         (λ (e : eqb u x ≡ false). rw (any-not (eqb u) x xs e) (omega arith))
         (decided (eqb u x))
 

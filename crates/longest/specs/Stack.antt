@@ -1,7 +1,7 @@
 -- The runs of trees in a row, on a stack.
 -- For inner contracts alone: who reads the promise of longest_run need not believe it, but specs/Outcome.antt. So it may cite Small, which is
 -- the proofs' form of leaves that fit a record.
-use Prim.Native.Nat.{ℕ, suc, _+_, _*_, _^_, _≤_, _<_}
+use Prim.Native.Nat.{ℕ, suc, _+_, _*_, _≤_, _<_}
 use mathlib.Core.Path.{_≡_}
 use mathlib.Core.List.{List, [], _∷_, _++_, map, flatMap, List·Memᴰ}
 use lib.ListN.{length, getD, take}
@@ -9,7 +9,7 @@ use Rattle.poset.specs.Lists.{occurrences, sum}
 use Rattle.poset.specs.Areas.{padded}
 use Rattle.poset.specs.Tree.{Kind, Tree, leaf, node, Forest, leaves}
 use Rattle.record.specs.Bits.{AllBelow}
-use Rattle.record.specs.Layout.{hoursBits, mostHours, moreChildren}
+use Rattle.record.specs.Layout.{mostHours, moreChildren}
 use Rattle.record.proofs.Sizes.{Small}
 use Rattle.reader.specs.Parts.{Strand}
 use Rattle.record.specs.Tokens.{groupToken, tokens}

@@ -1,6 +1,6 @@
 // The longest run, over a record's nodes from the last to the first. The trees that begin at the nodes taken so far stand in a row; a stack
 // has the run of each, the first on top. A run is its total, its first and its last job, and the jobs between by a list of next jobs.
-ghost use Prim.Native.Nat.{ℕ, _^_};
+ghost use Prim.Native.Nat.{_^_};
 ghost use mathlib.Core.Path.{_≡_};
 ghost use mathlib.Core.List.{List};
 ghost use lib.ListN.{length};

@@ -1,5 +1,5 @@
 -- `stack::side` meets its contract. The invariant: the entry of the first run with the greatest total from k on.
-use Prim.Native.Nat.{ℕ, _<_}
+use Prim.Native.Nat.{_<_}
 use mathlib.Core.List.{List}
 use native.Mathlib.Omega.{arith}
 use Rattle.longest.specs.Longest.{Stretch}

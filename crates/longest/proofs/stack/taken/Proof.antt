@@ -1,5 +1,5 @@
 -- `stack::taken` meets its contract: a law for a leaf, and one for a group of either kind.
-use Prim.Native.Nat.{ℕ, _+_, _%_, _<_}
+use Prim.Native.Nat.{_+_, _%_, _<_}
 use mathlib.Core.List.{List}
 use borrow.Author.Needs.{needs}
 use native.Mathlib.Omega.{arith}
@@ -18,7 +18,8 @@ leaf-of c =
     let s = c .before in
     let a = s .args in
     let (ts, us, step, fits, stacked) = s .pre .1 in
-    let leaf = taken-leaf (hoursOf (a .hours .now)) (hours-most (a .hours .now) (s .pre .0)) (a .top) (lent s) (a .token) (c .if1 .taken) ts us step fits stacked in
+    let leaf =
+    taken-leaf (hoursOf (a .hours .now)) (hours-most (a .hours .now) (s .pre .0)) (a .top) (lent s) (a .token) (c .if1 .taken) ts us step fits stacked in
     (leaf .0, leaf .1)
 
 opened-at : (k : Kind) (s : tie.Start) → IsGroup k (s .args .token) → (ts us : List Tree) → Step (s .args .token) ts us → Fits us

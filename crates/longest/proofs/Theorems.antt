@@ -1,0 +1,101 @@
+-- All that this crate promises. Each theorem is stated in full and cited. (Document 02, A.3)
+use Prim.Native.Nat.{ℕ, _*_, _≤_}
+use mathlib.Core.Path.{_≡_, refl}
+use mathlib.Core.List.{List, [], map, flatMap}
+use mathlib.Core.Logic.{_↔_, _≢_}
+use Rattle.poset.specs.Lists.{sum}
+use Rattle.poset.specs.Order.{Arc, Rel, before}
+use Rattle.poset.specs.Tree.{series, parallel, Tree, node, Forest, more, precedes, Means}
+use Rattle.relation.specs.Arcs.{pairs}
+use Rattle.record.specs.Bits.{AllBelow}
+use Rattle.record.specs.Layout.{mostHours, hoursOf, IsRecord}
+use Rattle.sheet.specs.Text.{LineForm}
+use Rattle.analysis.specs.Answer.{answer}
+use Rattle.analysis.specs.Outcome.{Rooms, sheetOutcome, pairOutcome}
+use Rattle.analysis.proofs.Demands.{yield-sheet, yield-pairs}
+use Rattle.longest.specs.Chains.{IsLongest}
+use Rattle.longest.specs.Longest.{longest, trees, FirstGreatest}
+use Rattle.longest.specs.Outcome.{runOutcome}
+use Rattle.longest.proofs.Longest
+use Rattle.longest.proofs.Records
+use Rattle.longest.proofs.Sheets
+use Rattle.longest.proofs.Examples
+use Rattle.longest.proofs.Examples.{Example, examples}
+
+-- Of a tree that means an order: the shown jobs are different jobs below the count, each before every later one shown; their hours together
+-- are the total; and no set of jobs in which any two are ordered has more.
+
+pub tree-longest
+    : (n : ℕ) (r : Rel) (t : Tree) → Means n t r → (hours : ℕ → ℕ) → IsLongest n r hours (longest hours t .0) (longest hours t .1)
+tree-longest = Longest.longest-is
+
+-- a chain's run is its children's runs in turn
+pub series-adds
+    : (hours : ℕ → ℕ) (t : Tree) (f : Forest)
+    → longest hours (node series t f)
+    ≡ (sum (λ c. longest hours c .0) (trees (more t f)), flatMap (λ c. longest hours c .1) (trees (more t f)))
+unfolding longest
+series-adds hours t f = Longest.series-adds hours (more t f)
+
+-- a side group's run is that of its first child with the greatest total
+pub parallel-takes
+    : (hours : ℕ → ℕ) (t : Tree) (f : Forest)
+    → (c : Tree) × FirstGreatest hours (trees (more t f)) c × (longest hours (node parallel t f) ≡ longest hours c)
+unfolding longest
+parallel-takes hours t f = Longest.parallel-takes hours (more t f)
+
+-- Of bytes: 11 exactly where they are no record, and then no total and no jobs; else the run of the tree that the record spells.
+
+pub run-refused
+    : (bytes : List ℕ) → AllBelow 256 bytes
+    → (runOutcome bytes .verdict .number ≡ 11) ↔ ((n : ℕ) (t : Tree) (hours : List ℕ) → IsRecord bytes n t hours → ⊥)
+run-refused = Records.run-refused
+
+pub run-empty
+    : (bytes : List ℕ) → runOutcome bytes .verdict .number ≢ 0 → runOutcome bytes ≡ record { verdict = answer 11 0 0 0 0; total = 0; jobs = [] }
+run-empty = Records.run-empty
+
+pub run-told
+    : (bytes : List ℕ) (n : ℕ) (t : Tree) (hours : List ℕ) → IsRecord bytes n t hours
+    → runOutcome bytes ≡ record { verdict = answer 0 0 0 0 0; total = longest (hoursOf hours) t .0; jobs = longest (hoursOf hours) t .1 }
+run-told = Records.run-told
+
+pub record-longest
+    : (bytes : List ℕ) (n : ℕ) (t : Tree) (hours : List ℕ) → IsRecord bytes n t hours
+    → IsLongest n (precedes t) (hoursOf hours) (runOutcome bytes .total) (runOutcome bytes .jobs)
+record-longest bytes n t hours r =
+    Records.run-longest bytes n t hours r (precedes t) (record { spans = r .spans; agrees = λ u v l k. refl })
+
+-- at most the most hours for each job
+pub total-small
+    : (bytes : List ℕ) (n : ℕ) (t : Tree) (hours : List ℕ) → IsRecord bytes n t hours → runOutcome bytes .total ≤ mostHours * n
+total-small = Records.total-small
+
+-- Of a sheet: bytes are refused exactly when no accepted sheet yields them; the run of an accepted sheet's record is the longest of the sheet's
+-- own order and hours.
+
+pub sheet-refused
+    : (bytes : List ℕ) → AllBelow 256 bytes
+    → (runOutcome bytes .verdict .number ≡ 11)
+    ↔ ((rooms : Rooms) (s : List ℕ) → sheetOutcome rooms s .verdict .number ≡ 0 → sheetOutcome rooms s .bytes ≡ bytes → ⊥)
+sheet-refused = Sheets.run-unyielded
+
+pub sheet-longest
+    : (rooms : Rooms) (s : List ℕ) → sheetOutcome rooms s .verdict .number ≡ 0
+    → (n : ℕ) × (hours : List ℕ) × (arcs : List Arc) × LineForm s n hours arcs
+    × (runOutcome (sheetOutcome rooms s .bytes) .verdict ≡ answer 0 0 0 0 0)
+    × IsLongest n (before n arcs) (hoursOf hours) (runOutcome (sheetOutcome rooms s .bytes) .total) (runOutcome (sheetOutcome rooms s .bytes) .jobs)
+sheet-longest rooms s zero =
+    let (n, hours, arcs, form, y) = yield-sheet rooms s zero in
+    (n, hours, arcs, form, Sheets.yield-told y, Sheets.yield-longest y)
+
+pub pairs-longest
+    : (rooms : Rooms) (n : ℕ) (hours list : List ℕ) → pairOutcome rooms n hours list .verdict .number ≡ 0
+    → (runOutcome (pairOutcome rooms n hours list .bytes) .verdict ≡ answer 0 0 0 0 0)
+    × IsLongest n (before n (pairs list)) (hoursOf hours)
+    (runOutcome (pairOutcome rooms n hours list .bytes) .total) (runOutcome (pairOutcome rooms n hours list .bytes) .jobs)
+pairs-longest rooms n hours list zero = let y = yield-pairs rooms n hours list zero in (Sheets.yield-told y, Sheets.yield-longest y)
+
+-- small records, one with two runs of the same total side by side, one with hours of 0 throughout, and bytes that are none
+pub shown-runs : map (λ (e : Example). runOutcome (e .0)) examples ≡ map (λ (e : Example). e .1) examples
+shown-runs = Examples.shown-runs
