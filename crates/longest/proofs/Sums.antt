@@ -7,7 +7,8 @@ use mathlib.Core.Logic.{⊎-elim}
 use native.Mathlib.Omega.{arith}
 use lib.Dec.{eqb}
 use Rattle.poset.specs.Lists.{exists, member, occurrences, sum}
-use Rattle.poset.proofs.Laws.{decided, clash, false-unless, eqb-true, eqb-same, any-yes, any-not, count-same, count-other, mem-count, count-zero, count-append, member-mem}
+use Rattle.poset.proofs.Laws.{decided, clash, false-unless, eqb-true, eqb-same, any-yes, any-not, member-mem}
+use Rattle.poset.proofs.Laws.{count-same, count-other, mem-count, count-zero, count-append}
 use Rattle.poset.proofs.Sums.{sum-le}
 
 module _ {ℓ} {A : Type ℓ} where

@@ -54,7 +54,8 @@ fn chain(
     let mut k = end;
     while k > top {
         k -= 1;
-        next[job(lasts[k])] = first;
+        let last = lasts[k];
+        next[job(last)] = first;
         first = firsts[k];
         total += totals[k];
     }

@@ -66,8 +66,8 @@ module _ (c : tie.In-loop Inv-loop μ-loop) where
 sub-k : tie.Need-sub-k Inv-loop μ-loop
 sub-k c = omega (arith, c .loop-test .taken)
 
-element-copy-out-job : tie.Need-element-copy-out-job Inv-loop μ-loop
-element-copy-out-job c = omega (arith, within c)
+element-copy-out-last : tie.Need-element-copy-out-last Inv-loop μ-loop
+element-copy-out-last c = omega (arith, within c)
 
 job-requires : tie.Need-job-requires Inv-loop μ-loop
 job-requires c κs = tt
@@ -116,7 +116,7 @@ chain-spec =
     element-copy-out-first
     loop-holds
     sub-k
-    element-copy-out-job
+    element-copy-out-last
     job-requires
     element-write-next
     element-copy-out-first-2
