@@ -3,7 +3,8 @@
  *     rt staticlib desk
  *     cc -std=c11 -Wall -Wextra -O2 -Iinclude examples/desk.c target/staticlib/libdesk.a -o desk
  *
- * Exit status: 0 accepted, 1 refused, 2 a wrong usage or a file that cannot be read, 3 the record reads back otherwise. */
+ * Exit status: 0 accepted, 1 refused, 2 a wrong usage or a file that cannot be read, 3 the record reads back
+ * otherwise or has no longest run. */
 
 #define _POSIX_C_SOURCE 200809L
 #include <fcntl.h>
@@ -94,6 +95,14 @@ static void show(unsigned bytes, unsigned orders, unsigned groups)
         printf("job %u before job %u\n", reduced[2 * i], reduced[2 * i + 1]);
 }
 
+static void show_run(const ordersheet_run *run)
+{
+    printf("longest run: %" PRIu64 " hours, jobs", run->total);
+    for (unsigned i = 0; i < run->count; i++)
+        printf(" %u", run->jobs[i]);
+    printf("\n");
+}
+
 int main(int arguments, char **argument)
 {
     if (arguments != 2) {
@@ -118,6 +127,12 @@ int main(int arguments, char **argument)
         fprintf(stderr, "the record reads back otherwise: %" PRIx64 " and %" PRIx64 "\n", answer, again);
         return 3;
     }
+    ordersheet_run run = ordersheet_longest_run(record, bytes);
+    if (ordersheet_number(run.answer) != 0) {
+        fprintf(stderr, "the record has no longest run: %" PRIx64 "\n", run.answer);
+        return 3;
+    }
     show(bytes, orders, ordersheet_third(answer));
+    show_run(&run);
     return 0;
 }

@@ -1,16 +1,17 @@
-/* Order sheets and cutting records: the planning desk's two calls.
+/* Order sheets and cutting records: the planning desk's three calls.
  *
  * A sheet is a line with the job count, then as many lines as the count says, each with one job's hours from job 0 on,
  * then a line for each order, two job numbers with one space between. A number has one to three digits, hours one to
  * four, and no leading zero. A line ends in \n or \r\n.
  *
- * Each call hands back its answer as one 64-bit number:
+ * Each call hands back an answer, one 64-bit number; that of a longest run stands ahead of the run:
  *
  *     number + 2^8 * first + 2^24 * second + 2^40 * third + 2^48 * fourth
  *
- * Number 0 is acceptance; its places are the record's bytes, the reduced orders, the groups in the tree, and 0.
- * The others are refusals, tested in the order 1, 2, 3, 4, 13, 5, 6, 7, 8, 9, 10 for a sheet and 11, 10 for a record.
- * A place that is not named here is 0. Orders, jobs and bytes are counted from 0.
+ * Number 0 is acceptance; its places are the record's bytes, the reduced orders, the groups in the tree, and 0, or all
+ * 0 for a longest run. The others are refusals, tested in the order 1, 2, 3, 4, 13, 5, 6, 7, 8, 9, 10 for a sheet and
+ * 11, 10 for a record that is read; a longest run is refused with 11 alone. A place that is not named here is 0.
+ * Orders, jobs and bytes are counted from 0.
  *
  *      1  the sheet is longer than ORDERSHEET_SHEET bytes
  *      2  the sheet breaks the line form; first: the byte where it does, or the sheet's length where it stops short
@@ -23,17 +24,18 @@
  *      9  the record area is shorter than the record
  *     10  the area for reduced orders is shorter than two bytes for each
  *     11  the bytes offered as a record are not the record of any plain tree
- *     12  the hours list is not as long as the job count; of pair lists only, which neither call takes
+ *     12  the hours list is not as long as the job count; of pair lists only, which no call takes
  *     13  a job's hours are above ORDERSHEET_HOURS; first: the first such job
  *
  * A refusal leaves the areas untouched. On acceptance the bytes after the written ones stay. ORDERSHEET_RECORD_AREA
- * and ORDERSHEET_REDUCED_AREA bytes are always enough, and 9 and 10 are then never given. Any lengths may be lent.
+ * and ORDERSHEET_REDUCED_AREA bytes are always enough, and 9 and 10 are then never given. Any lengths may be lent. A
+ * longest run takes no area.
  *
  * A pointer is good for as many bytes as the length after it says; where that is 0 it is not followed. An area
  * overlaps neither the other area nor the input. The calls never fail otherwise, whatever the input is: they
  * allocate nothing, keep nothing between calls, and may run on several threads at once. A call takes less than
- * ORDERSHEET_STACK bytes of stack: tests/stack/stack.c measures up to 50,000 for a sheet and 16,000 for bytes offered
- * as a record. */
+ * ORDERSHEET_STACK bytes of stack: tests/stack/stack.c measures up to 50,000 for a sheet and, for bytes offered as a
+ * record, 16,000 to read them and 13,000 for a longest run. */
 
 #ifndef ORDERSHEET_H
 #define ORDERSHEET_H
@@ -59,6 +61,18 @@ uint64_t ordersheet_analyse(const uint8_t *sheet, size_t sheet_length, uint8_t *
 
 /* The reading of a record. On acceptance the reduced orders, two bytes each, are in the area. */
 uint64_t ordersheet_read(const uint8_t *record, size_t record_length, uint8_t *reduced, size_t reduced_room);
+
+/* A longest run of work: of all sets of jobs in which any two are ordered, one whose hours together are the most. */
+typedef struct {
+    uint64_t answer;               /* 0, its places 0; or 11, and then all below is 0 */
+    uint64_t total;                /* the hours together: at most ORDERSHEET_JOBS times ORDERSHEET_HOURS */
+    uint64_t count;                /* how many jobs it has: 1 to ORDERSHEET_JOBS */
+    uint8_t jobs[ORDERSHEET_JOBS]; /* so many job numbers, earliest first, then zeros */
+} ordersheet_run;
+
+/* The longest run of a record. The total is the fewest hours in which all jobs can be done with hands enough. A chain
+ * adds its children's runs, a side group takes that of its first child with the greatest total. */
+ordersheet_run ordersheet_longest_run(const uint8_t *record, size_t record_length);
 
 /* An answer's number and places. */
 static inline unsigned ordersheet_number(uint64_t answer) { return answer & 0xff; }

@@ -1,6 +1,8 @@
-// Both calls from C++: a sheet, and its record read back. Exit status 0: both are accepted as they should be.
+// The calls from C++: a sheet, its record read back, and the record's longest run, in full and cut off. Exit status 0: each gives what it should.
 
 #include "ordersheet.h"
+
+static_assert(sizeof(ordersheet_run) == 152, "a run has 152 bytes");
 
 int main()
 {
@@ -10,5 +12,10 @@ int main()
     bool accepted = ordersheet_number(answer) == 0 && ordersheet_first(answer) == 7 && ordersheet_second(answer) == 1 &&
                     ordersheet_third(answer) == 1 && ordersheet_fourth(answer) == 0;
     bool same = ordersheet_read(record, ordersheet_first(answer), again, sizeof again) == answer;
-    return accepted && same && reduced[0] == 1 && reduced[1] == 0 && again[0] == 1 && again[1] == 0 ? 0 : 1;
+    bool orders = reduced[0] == 1 && reduced[1] == 0 && again[0] == 1 && again[1] == 0;
+    ordersheet_run run = ordersheet_longest_run(record, ordersheet_first(answer));
+    bool found = run.answer == 0 && run.total == 7 && run.count == 2 && run.jobs[0] == 1 && run.jobs[1] == 0;
+    ordersheet_run none = ordersheet_longest_run(record, ordersheet_first(answer) - 1);
+    bool refused = none.answer == 11 && none.total == 0 && none.count == 0 && none.jobs[0] == 0 && none.jobs[ORDERSHEET_JOBS - 1] == 0;
+    return accepted && same && orders && found && refused ? 0 : 1;
 }

@@ -1,4 +1,4 @@
-/* Holds the numbers of ordersheet.h, and what it says of the areas, to the library. Prints a line for each that is wrong, then 'N passed, M failed'. */
+/* Holds the numbers of ordersheet.h, what it says of the areas, and longest runs worked by hand, to the library. Prints a line for each that is wrong, then 'N passed, M failed'. */
 
 #define _DEFAULT_SOURCE
 #include <inttypes.h>
@@ -11,6 +11,7 @@
 /* The calls as DESK.md declares them. */
 static uint64_t (*const analyse)(const uint8_t *, size_t, uint8_t *, size_t, uint8_t *, size_t) = ordersheet_analyse;
 static uint64_t (*const reread)(const uint8_t *, size_t, uint8_t *, size_t) = ordersheet_read;
+static ordersheet_run (*const longest_run)(const uint8_t *, size_t) = ordersheet_longest_run;
 
 enum { BEHIND = 64, FILL = 0xa5 }; /* bytes behind the longest area that stay as well, and what all are filled with */
 static char sheet[ORDERSHEET_SHEET + (1 << 16)];
@@ -69,6 +70,30 @@ static int filled(const uint8_t *area, size_t from, size_t size)
     return from >= size;
 }
 
+/* The bytes have this total and these jobs as their longest run, with zeros after them. */
+static void runs(const char *name, const uint8_t *bytes, size_t size, unsigned total, unsigned count, const uint8_t *jobs)
+{
+    char what[100];
+    ordersheet_run run = longest_run(bytes, size);
+    is(name, run.answer, 0, 0, 0, 0, 0);
+    snprintf(what, sizeof what, "the run has %" PRIu64 " hours and %" PRIu64 " jobs, expected %u and %u", run.total, run.count, total, count);
+    check(name, what, run.total == total && run.count == count);
+    check(name, "the run has other jobs", memcmp(run.jobs, jobs, count) == 0);
+    unsigned after = count;
+    while (after < ORDERSHEET_JOBS && run.jobs[after] == 0)
+        after++;
+    check(name, "the jobs of the run have no zeros after them", after == ORDERSHEET_JOBS);
+}
+
+/* The bytes are refused with 11, and the run has nothing else. */
+static void no_run(const char *name, const uint8_t *bytes, size_t size)
+{
+    static const ordersheet_run none = {11, 0, 0, {0}};
+    ordersheet_run run = longest_run(bytes, size);
+    is(name, run.answer, 11, 0, 0, 0, 0);
+    check(name, "refused, and the run is not all 0", memcmp(&run, &none, sizeof run) == 0);
+}
+
 /* The sheet is refused so with areas of these lengths, and neither area is written to. */
 static void refused(const char *name, size_t record_room, size_t reduced_room, unsigned number, unsigned first, unsigned second, unsigned third,
                     unsigned fourth)
@@ -94,6 +119,8 @@ static void unread(const char *name, size_t bytes, size_t reduced_room, unsigned
     memset(again, FILL, sizeof again);
     is(name, reread(record, bytes, again, reduced_room), number, 0, 0, 0, 0);
     check(name, "refused, and the area changed", filled(again, 0, sizeof again));
+    if (number == 11)
+        no_run(name, record, bytes);
 }
 
 static void packing(void)
@@ -212,6 +239,68 @@ static void older(void)
     unread("128 jobs without hours", 130, ORDERSHEET_REDUCED_AREA, 11);
 }
 
+/* The sheet's record has this longest run, and stays as it is. */
+static void sheet_runs(const char *name, const char *text, unsigned total, unsigned count, const uint8_t *jobs)
+{
+    uint8_t before[sizeof record];
+    fill();
+    uint64_t answer = analyse((const uint8_t *)text, strlen(text), record, ORDERSHEET_RECORD_AREA, reduced, ORDERSHEET_REDUCED_AREA);
+    check(name, "the sheet is refused", ordersheet_number(answer) == 0);
+    memcpy(before, record, sizeof record);
+    runs(name, record, ordersheet_first(answer), total, count, jobs);
+    check(name, "the record changed", memcmp(record, before, sizeof record) == 0);
+}
+#define JOBS(...) sizeof((const uint8_t[]){__VA_ARGS__}), (const uint8_t[]){__VA_ARGS__}
+
+static void longest_runs(void)
+{
+    check("ordersheet_run", "a run has not 152 bytes", sizeof(ordersheet_run) == 152);
+
+    /* DESK.md's record: 40 + 16 + 24 hours; each part of it alone is no record. */
+    static const uint8_t hull[] = {0x09, 0x81, 0x81, 0x00, 0x01, 0x46, 0x04, 0x04, 0x04, 0x00, 0x80, 0x40, 0x0c, 0x06, 0x01, 0x00, 0x20, 0x00};
+    runs("a run, DESK.md's record", hull, 17, 80, JOBS(0, 1, 3));
+    no_run("a run, DESK.md's record and a byte", hull, 18);
+    for (size_t size = 0; size < 17; size++)
+        no_run("a run, DESK.md's record cut off", hull, size);
+    static const uint8_t others[][8] = {{0x03, 0x81, 0x01}, {0x03, 0x01}, {0x03, 0x01, 0x01}};
+    no_run("a run, a side group the wrong way round", others[0], 7);
+    no_run("a run, job 0 twice", others[1], 7);
+    no_run("a run, a byte too many", others[2], 8);
+
+    sheet_runs("a run, one job of no hours", "1\n0\n", 0, JOBS(0));
+    sheet_runs("a run, one job", "1\n4095\n", 4095, JOBS(0));
+    sheet_runs("a run, job 1 before job 0", "2\n4095\n4094\n1 0\n", 8189, JOBS(1, 0));
+    sheet_runs("a run, no hours in a chain", "3\n3\n0\n4\n0 1\n1 2\n", 7, JOBS(0, 1, 2));
+    sheet_runs("a run, no hours in a side group", "3\n0\n0\n0\n", 0, JOBS(0));
+    sheet_runs("a run, the second child", "3\n4\n6\n5\n", 6, JOBS(1));
+    sheet_runs("a run, the second child as great as the third", "3\n4\n6\n6\n", 6, JOBS(1));
+    sheet_runs("a run, a job as great as a chain after it", "3\n7\n3\n4\n1 2\n", 7, JOBS(0));
+    sheet_runs("a run, a chain as great as a job after it", "3\n3\n7\n4\n0 2\n", 7, JOBS(0, 2));
+    sheet_runs("a run, a chain less than a job after it", "3\n3\n8\n4\n0 2\n", 8, JOBS(1));
+    /* 5 before 3 and 0; 3 before 1, and 0 free of both; then 2; 4 beside all of it: 9 + (2 + 6) + 1 = 18, and 7 of job 0, 17 of job 4 */
+    sheet_runs("a run, groups in groups", "6\n7\n6\n1\n2\n17\n9\n5 3\n5 0\n3 1\n1 2\n0 2\n", 18, JOBS(5, 3, 1, 2));
+
+    uint8_t jobs[ORDERSHEET_JOBS];
+    length = (size_t)sprintf(sheet, "%d\n", ORDERSHEET_JOBS);
+    for (unsigned job = 0; job < ORDERSHEET_JOBS; job++) {
+        jobs[job] = (uint8_t)(ORDERSHEET_JOBS - 1 - job);
+        length += (size_t)sprintf(sheet + length, "%d\n", ORDERSHEET_HOURS);
+    }
+    for (unsigned job = 1; job < ORDERSHEET_JOBS; job++)
+        order(job, job - 1);
+    sheet_runs("a run, the greatest total", sheet, ORDERSHEET_JOBS * ORDERSHEET_HOURS, ORDERSHEET_JOBS, jobs);
+
+    /* The deepest tree: jobs 0, 2, 4 to 126 and 127, job i of 4095 - i hours: 64 * 4095 - 2 * (0 + 1 + .. + 63) + 3968. */
+    start(ORDERSHEET_JOBS);
+    for (unsigned u = 0; u < 128; u += 2) {
+        jobs[u / 2] = (uint8_t)u;
+        for (unsigned v = u + 1; v < 128; v++)
+            order(u, v);
+    }
+    jobs[64] = 127;
+    sheet_runs("a run, the deepest tree", sheet, 262016, 65, jobs);
+}
+
 /* Lengths of 0 with no area, and lengths of more than 32 bits. */
 static void any_length(void)
 {
@@ -222,6 +311,7 @@ static void any_length(void)
     is("no area for orders, and none", analyse((const uint8_t *)one, sizeof one - 1, bytes, 4, NULL, 0), 0, 4, 0, 0, 0);
     is("no area for orders, and none to read", reread(bytes, 4, NULL, 0), 0, 4, 0, 0, 0);
     is("no record", reread(NULL, 0, NULL, 0), 11, 0, 0, 0, 0);
+    no_run("no record for a run", NULL, 0);
 
     /* Only the first page can be read or written. */
     size_t long_room = (size_t)1 << 32;
@@ -230,6 +320,7 @@ static void any_length(void)
     if (area == MAP_FAILED)
         return;
     is("2^32 + 2 bytes as a record", reread(area, long_room + 2, NULL, 0), 11, 0, 0, 0, 0);
+    no_run("2^32 + 2 bytes for a run", area, long_room + 2);
     memcpy(area, one, sizeof one - 1);
     is("a sheet of 2^32 + 2 bytes", analyse(area, long_room + 2, bytes, 4, NULL, 0), 1, 0, 0, 0, 0);
     is("a record area of 2^32 bytes", analyse((const uint8_t *)one, sizeof one - 1, area, long_room, NULL, 0), 0, 4, 0, 0, 0);
@@ -247,6 +338,7 @@ int main(void)
     longest_record();
     most_orders();
     older();
+    longest_runs();
     any_length();
     printf("%u passed, %u failed\n", passed, failed);
     return passed == 0 || failed != 0;

@@ -19,6 +19,7 @@ static size_t length;
 static uint8_t record[ORDERSHEET_RECORD_AREA], reduced[ORDERSHEET_REDUCED_AREA];
 static size_t bytes;
 static uint64_t answer;
+static ordersheet_run run;
 static ucontext_t back, there;
 static size_t most;
 static int wrong;
@@ -29,6 +30,11 @@ static void analyse(void)
     answer = ordersheet_analyse((const uint8_t *)sheet, length, record, sizeof record, reduced, sizeof reduced);
 }
 static void reread(void) { answer = ordersheet_read(record, bytes, reduced, sizeof reduced); }
+static void longest_run(void)
+{
+    run = ordersheet_longest_run(record, bytes);
+    answer = run.answer;
+}
 
 /* The bytes of the stack that a call writes, down to the lowest. */
 static size_t taken_over(void (*call)(void), int pattern)
@@ -55,7 +61,7 @@ static size_t taken(void (*call)(void))
 static void measure(const char *name, void (*call)(void), unsigned number)
 {
     size_t size = taken(call);
-    printf("%-60s answer %2u  %6zu bytes\n", name, ordersheet_number(answer), size);
+    printf("%-80s answer %2u  %6zu bytes\n", name, ordersheet_number(answer), size);
     if (size > most)
         most = size;
     if (ordersheet_number(answer) != number)
@@ -70,15 +76,27 @@ static void start(unsigned jobs)
 }
 static void order(unsigned u, unsigned v) { length += (size_t)sprintf(sheet + length, "%u %u%s", u, v, end); }
 
-/* The sheet, and its record. */
-static void both(const char *name)
+/* The bytes of the record area, read and for their longest run, both with this answer. */
+static void offered(const char *name, unsigned number)
 {
-    char text[80];
+    char text[100];
+    snprintf(text, sizeof text, "reading: %s", name);
+    measure(text, reread, number);
+    snprintf(text, sizeof text, "run: %s", name);
+    measure(text, longest_run, number);
+}
+
+/* The sheet, and its record, in full and cut off by a byte. */
+static void all(const char *name)
+{
+    char text[100];
     snprintf(text, sizeof text, "analysis: %s", name);
     measure(text, analyse, 0);
     bytes = ordersheet_first(answer);
-    snprintf(text, sizeof text, "reading: %s", name);
-    measure(text, reread, 0);
+    offered(name, 0);
+    bytes--;
+    snprintf(text, sizeof text, "%s, a byte less", name);
+    offered(text, 11);
 }
 
 static size_t bits;
@@ -107,17 +125,17 @@ static void nested(const char *name, unsigned leaves, unsigned side)
         leaves = 0;
     }
     bytes = sizeof record;
-    measure(name, reread, 11);
+    offered(name, 11);
 }
 
 int main(void)
 {
-    printf("%-60s            %6zu bytes\n", "a call that does nothing", taken(nothing));
+    printf("%-80s            %6zu bytes\n", "a call that does nothing", taken(nothing));
     start(128);
     for (unsigned u = 0; u < 64; u++)
         for (unsigned v = 64; v < 128; v++)
             order(u, v);
-    both("4,096 orders, 64 jobs before 64");
+    all("4,096 orders, 64 jobs before 64");
     /* the first N is the last of its kind */
     start(128);
     for (unsigned u = 0; u < 64; u++)
@@ -129,28 +147,52 @@ int main(void)
     for (unsigned i = 0; i < 127; i += 2)
         for (unsigned j = i + 1; j < 128; j++)
             order(i, j);
-    both("127 groups of two, chain and side in turn, chain first");
+    all("127 groups of two, chain and side in turn, chain first");
     start(128);
     for (unsigned i = 1; i < 127; i += 2)
         for (unsigned j = i + 1; j < 128; j++)
             order(i, j);
-    both("126 groups, side first");
+    all("126 groups, side first");
+    start(128);
+    for (unsigned i = 1; i < 128; i += 2)
+        for (unsigned j = 0; j < i; j++)
+            order(j, i);
+    all("127 groups of two, each the first child, chain first");
+    start(128);
+    for (unsigned i = 2; i < 128; i += 2)
+        for (unsigned j = 0; j < i; j++)
+            order(j, i);
+    all("127 groups of two, each the first child, side first");
+    /* 16 parts of 8 jobs side by side, each 0 and 1, then 2, then 3 and the two beside, 4 before 5, then 6 and 7 */
+    start(128);
+    for (unsigned i = 0; i < 128; i += 8) {
+        static const unsigned ordered[][2] = {{0, 2}, {1, 2}, {2, 3}, {2, 4}, {4, 5}, {3, 6}, {5, 6}, {3, 7}, {5, 7}};
+        for (unsigned k = 0; k < sizeof ordered / sizeof *ordered; k++)
+            order(i + ordered[k][0], i + ordered[k][1]);
+    }
+    all("16 parts of 8 jobs and 5 groups side by side");
     start(128);
     for (unsigned i = 1; i < 128; i++)
         order(i - 1, i);
-    both("one chain of 128");
+    all("one chain of 128");
     start(128);
-    both("128 free jobs");
+    all("128 free jobs");
+    start(1);
+    all("one job");
     end = "\r\n";
     start(128);
     for (unsigned i = 0; i < 4096; i++)
         order(100 + i % 14, 114 + i % 14);
-    printf("%-60s            %6zu bytes of sheet\n", "the longest sheet", length);
-    both("the longest sheet");
-    nested("reading: groups in groups, chain first", 0, 0);
-    nested("reading: groups in groups, side first", 0, 1);
-    nested("reading: the same after 127 leaves of a chain", 127, 0);
-    nested("reading: the same after 127 leaves of a side group", 127, 1);
+    printf("%-80s            %6zu bytes of sheet\n", "the longest sheet", length);
+    all("the longest sheet");
+    nested("groups in groups, chain first", 0, 0);
+    nested("groups in groups, side first", 0, 1);
+    nested("the same after 127 leaves of a chain", 127, 0);
+    nested("the same after 127 leaves of a side group", 127, 1);
+    memset(record, 0xff, sizeof record);
+    offered("ones", 11);
+    bytes = 0;
+    offered("no bytes", 11);
     printf("at most %zu bytes, of %d\n", most, ORDERSHEET_STACK);
     return wrong || most > ORDERSHEET_STACK;
 }
