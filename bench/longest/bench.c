@@ -1,8 +1,6 @@
 // The longest run of a record (`ordersheet_longest_run`) beside the same work in C, in one process, on the same bytes. README.md says how to run it.
 #include "../reader/records.h"
 
-typedef struct { uint64_t answer, total, count; uint8_t jobs[128]; } ordersheet_run;
-ordersheet_run ordersheet_longest_run(const uint8_t *record, size_t record_length);
 // The product's reading of a record alone, from target/staticlib/libreader_bench.a; all 0 where the bytes are none.
 typedef struct { uint64_t count, groups; uint8_t forward[128], reverse[128]; uint16_t hours[128]; } reader_bench_reading;
 reader_bench_reading reader_bench_read(const uint8_t *record, size_t record_length);
