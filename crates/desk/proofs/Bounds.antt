@@ -2,18 +2,15 @@
 use Prim.Native.Nat.{ℕ, _≤_, _<_}
 use mathlib.Core.Path.{_≡_, refl, ap}
 use mathlib.Core.List.{List, _∷_}
-use mathlib.Core.Option.{none, some}
 use mathlib.Core.Logic.{inr, ⊎-elim}
 use native.Mathlib.Decide.{ℕ-discrete}
 use native.Mathlib.Omega.{arith}
 use lib.ListN.{length, length-append}
 use Rattle.poset.specs.Order.{Arc, Rel, Strict, before, reduction}
 use Rattle.poset.specs.Tree.{Tree, Spans, groups, precedes}
-use Rattle.poset.proofs.Laws.{found-or-none}
 use Rattle.poset.proofs.Theorems.{reduction-fits, tree-is-strict}
 use Rattle.record.specs.Bits.{AllBelow}
 use Rattle.record.specs.Layout.{layout}
-use Rattle.record.specs.Decode.{decode}
 use Rattle.record.proofs.Theorems.{layout-length}
 use Rattle.relation.specs.Arcs.{pairs}
 use Rattle.sheet.proofs.Theorems.{scan-place}
@@ -25,6 +22,7 @@ use Rattle.analysis.proofs.Fates.{Fate, miscounted, many, untimed, overtime, ou
 use Rattle.analysis.proofs.Inputs.{SheetFate, oversize, misformed, formed, sheet-fate}
 use Rattle.analysis.proofs.Inputs.{PairFate, odd, even, pair-fate, RecordFate, misspelt, broad, read, record-fate}
 use Rattle.longest.specs.Outcome.{runOutcome}
+use Rattle.longest.proofs.Records.{noRun, treeRun, run-either}
 use Rattle.desk.proofs.Packing.{Narrow}
 
 -- a refusal that names one place at most
@@ -121,9 +119,9 @@ pub record-narrow : (room : ℕ) (bytes : List ℕ) → AllBelow 256 bytes → N
 record-narrow room bytes below = record-told room bytes (record-fate room bytes below)
 
 pub run-narrow : (bytes : List ℕ) → Narrow (runOutcome bytes .verdict)
-unfolding runOutcome refuse
+unfolding refuse
 run-narrow bytes =
     ⊎-elim
-    (λ (h : (x : ℕ × Tree × List ℕ) × (decode bytes ≡ some x)). rw (runOutcome, h .1) (one-place 0 0 (omega arith) (omega arith)))
-    (λ (h : decode bytes ≡ none). rw (runOutcome, h) (one-place 11 0 (omega arith) (omega arith)))
-    (found-or-none (decode bytes))
+    (λ (h : (t : Tree) × (hours : List ℕ) × (runOutcome bytes ≡ treeRun t hours)). rw (h .2) (one-place 0 0 (omega arith) (omega arith)))
+    (λ (h : runOutcome bytes ≡ noRun). rw h (one-place 11 0 (omega arith) (omega arith)))
+    (run-either bytes)

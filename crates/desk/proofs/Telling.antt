@@ -1,4 +1,4 @@
--- What an analysis gives, told as one number.
+-- What an analysis gives, told as one number, and a longest run.
 use Prim.Native.Nat.{ℕ}
 use mathlib.Core.Path.{_≡_, ap, _∙_}
 use mathlib.Core.List.{List}

@@ -22,7 +22,7 @@ use Rattle.reader.specs.Answer.{nodes}
 use Rattle.reader.specs.declared.NodeList.{NodeList}
 use Rattle.analysis.specs.declared.Verdict.the-variants as verdict
 use Rattle.analysis.proofs.Times.{entry-padded, padded-below}
-use Rattle.longest.specs.Longest.{Stretch, longest}
+use Rattle.longest.specs.Longest.{WorkRun, longest}
 use Rattle.longest.specs.Outcome.{runOutcome, Shows}
 use Rattle.longest.specs.Stack.{Listed, Found, Linked, Shown}
 use Rattle.longest.specs.declared.stack.Run.{Run}
@@ -93,7 +93,7 @@ module _ {bytes : List ℕ} {x : NodeList} (d : Decoded bytes x) where
             ∙ take-at (tokens (d .tree)) (replicate (nodeRoom - length (tokens (d .tree))) 0) (x .count) (sym (d .count-is));
       }
 
-  abbrev run : Stretch
+  abbrev run : WorkRun
   run = longest (hoursOf (x .hours)) (d .tree)
 
   pub linked : (next : List ℕ) (r : Run) → Found run next r → Linked next (r .first) (r .last) (run .1)
@@ -115,7 +115,7 @@ module _ {bytes : List ℕ} {x : NodeList} (d : Decoded bytes x) where
       rw (runOutcome, d .decodes)
       (record {
         answers = refl;
-        total-is = found .total-is ∙ ap (λ (a : Stretch). a .0) same;
-        count-is = shown .count-is ∙ ap (λ (a : Stretch). length (a .1)) same;
-        jobs-are = shown .jobs-are ∙ ap (λ (a : Stretch). padded (a .1)) same;
+        total-is = found .total-is ∙ ap (λ (a : WorkRun). a .0) same;
+        count-is = shown .count-is ∙ ap (λ (a : WorkRun). length (a .1)) same;
+        jobs-are = shown .jobs-are ∙ ap (λ (a : WorkRun). padded (a .1)) same;
       })

@@ -10,15 +10,15 @@ use lib.Seq.{take-suc, drop-cons, getD-set-other, set-getD}
 use Rattle.poset.specs.Lists.{occurrences, sum}
 use Rattle.poset.specs.Tree.{Kind, series, parallel}
 use Rattle.poset.proofs.Laws.{false-unless, ltb-true, lt-true, mem-count, count-mem}
+use Rattle.poset.proofs.Sums.{sum-append}
 use Rattle.record.specs.Layout.{mostHours}
 use Rattle.reader.specs.Parts.{Strand}
 use Rattle.reader.proofs.Strands.{strand-last, strand-link}
-use Rattle.longest.specs.Longest.{Stretch, joinedRuns}
+use Rattle.longest.specs.Longest.{WorkRun, joinedRuns}
 use Rattle.longest.specs.Stack.{Runs, runs, Entry, Entries, jobsOf, runOf, Beside, Joined}
-use Rattle.longest.proofs.Sums.{sum-append}
 use Rattle.longest.proofs.Entries.{noRun, entries-kept, entry-put, entries-snoc, entry-at, jobs-parted, run-more, run-count, series-total}
 
-module _ (rs : List Stretch) (top end : ℕ) (w : Runs) (b : Beside rs top end w) where
+module _ (rs : List WorkRun) (top end : ℕ) (w : Runs) (b : Beside rs top end w) where
   -- one child more is joined to those after it
   run-from : (k : Kind) (i : ℕ) → suc i < length rs → runOf k (drop i rs) ≡ joinedRuns k (getD rs i noRun) (runOf k (drop (suc i) rs))
   run-from k i l =
@@ -26,12 +26,12 @@ module _ (rs : List Stretch) (top end : ℕ) (w : Runs) (b : Beside rs top end w
       ∙ run-more k (getD rs i noRun) (drop (suc i) rs) (rest-some i l)
     where
       rest-some : (i : ℕ) → suc i < length rs → 0 < length (drop (suc i) rs)
-      rest-some i l = subst (λ (x : List Stretch). 0 < length x) (sym (drop-cons rs (suc i) noRun l)) (omega arith)
+      rest-some i l = subst (λ (x : List WorkRun). 0 < length x) (sym (drop-cons rs (suc i) noRun l)) (omega arith)
 
   -- the last child alone
   run-last : (k : Kind) (i : ℕ) → suc i ≡ length rs → runOf k (drop i rs) ≡ getD rs i noRun
   run-last k i e =
-      ap (runOf k) (drop-cons rs i noRun (omega arith) ∙ ap (λ (x : List Stretch). getD rs i noRun ∷ x) (drop-of-length-le rs {i = suc i} (omega arith)))
+      ap (runOf k) (drop-cons rs i noRun (omega arith) ∙ ap (λ (x : List WorkRun). getD rs i noRun ∷ x) (drop-of-length-le rs {i = suc i} (omega arith)))
 
   -- a run after all children are joined, at the entry of the last one
   joined-at : (k : Kind) (first last : ℕ) (next : List ℕ) → Strand next first (runOf k rs .1) last → length next ≡ 128
@@ -78,8 +78,8 @@ module _ (rs : List Stretch) (top end : ℕ) (w : Runs) (b : Beside rs top end w
         to-end = omega arith;
         room = b .sized .next-size;
         ahead = es;
-        total-is = e .total ∙ ap (λ (a : Stretch). a .0) (sym alone);
-        strand = subst (λ (a : Stretch). Strand (w .next) (getD (w .firsts) end 0) (a .1) (getD (w .lasts) end 0)) (sym alone) (e .strand);
+        total-is = e .total ∙ ap (λ (a : WorkRun). a .0) (sym alone);
+        strand = subst (λ (a : WorkRun). Strand (w .next) (getD (w .firsts) end 0) (a .1) (getD (w .lasts) end 0)) (sym alone) (e .strand);
         others = λ u m. refl;
       }
 
@@ -98,7 +98,7 @@ module _ (rs : List Stretch) (top end : ℕ) (w : Runs) (b : Beside rs top end w
     abbrev i : ℕ
     i = k - 1 - top
 
-    abbrev child : Stretch
+    abbrev child : WorkRun
     child = getD rs i noRun
 
     steps : k - top ≡ suc i
@@ -156,11 +156,11 @@ module _ (rs : List Stretch) (top end : ℕ) (w : Runs) (b : Beside rs top end w
             ahead-of .1 .total,
             series-total (drop (k - top) rs),
             b .low,
-            ap (sum (λ (a : Stretch). a .0)) (sym (take-append-drop (suc i) rs)),
-            sum-append (λ (a : Stretch). a .0) (take (suc i) rs) (drop (suc i) rs),
-            ap (sum (λ (a : Stretch). a .0)) (take-suc rs i noRun (omega (arith, one-of))),
-            sum-append (λ (a : Stretch). a .0) (take i rs) (child ∷ []),
-            ap (λ (n : ℕ). sum (λ (a : Stretch). a .0) (drop n rs)) steps,
+            ap (sum (λ (a : WorkRun). a .0)) (sym (take-append-drop (suc i) rs)),
+            sum-append (λ (a : WorkRun). a .0) (take (suc i) rs) (drop (suc i) rs),
+            ap (sum (λ (a : WorkRun). a .0)) (take-suc rs i noRun (omega (arith, one-of))),
+            sum-append (λ (a : WorkRun). a .0) (take i rs) (child ∷ []),
+            ap (λ (n : ℕ). sum (λ (a : WorkRun). a .0) (drop n rs)) steps,
           )
 
       pub chained-next : Chained (set next link first) (total + getD (w .totals) (k - 1) 0) (getD (w .firsts) (k - 1) 0) (k - 1)
@@ -179,9 +179,9 @@ module _ (rs : List Stretch) (top end : ℕ) (w : Runs) (b : Beside rs top end w
                 (λ u. omega (arith, b .once u, jobs-parted rs i (omega (arith, one-of)) u))
                 (λ u m. getD-set-other next link u first 0 (λ q. omega (arith, mem-count m, no-ahead, ap (λ (x : ℕ). occurrences x (jobsOf (take i rs))) q)))
                 es;
-            total-is = omega (arith, c .total-is, e .total, ap (λ (a : Stretch). a .0) whole);
+            total-is = omega (arith, c .total-is, e .total, ap (λ (a : WorkRun). a .0) whole);
             strand =
-                subst (λ (a : Stretch). Strand (set next link first) (getD (w .firsts) (k - 1) 0) (a .1) (getD (w .lasts) end 0)) (sym whole)
+                subst (λ (a : WorkRun). Strand (set next link first) (getD (w .firsts) (k - 1) 0) (a .1) (getD (w .lasts) end 0)) (sym whole)
                 (strand-link once (omega (arith, end-once)) (λ m. omega (arith, mem-count m, no-later)) (omega (arith, link-small, c .room))
                 (e .strand) (c .strand));
             others = λ u out.
@@ -243,11 +243,11 @@ module _ (rs : List Stretch) (top end : ℕ) (w : Runs) (b : Beside rs top end w
       → Joined series rs end w (runs (set (w .totals) end total) (set (w .firsts) end first) (w .lasts) next)
   chained-all next total first k c l =
       let all = all-from series k (c .from-top) l in
-      rw (c .total-is, ap (λ (a : Stretch). a .0) all)
+      rw (c .total-is, ap (λ (a : WorkRun). a .0) all)
       (subst (λ (x : List ℕ). Joined series rs end w (runs (set (w .totals) end (runOf series rs .0)) (set (w .firsts) end first) x next))
       (set-getD (w .lasts) end 0)
       (joined-at series first (getD (w .lasts) end 0) next
-      (subst (λ (a : Stretch). Strand next first (a .1) (getD (w .lasts) end 0)) all (c .strand)) (c .room) (c .others)))
+      (subst (λ (a : WorkRun). Strand next first (a .1) (getD (w .lasts) end 0)) all (c .strand)) (c .room) (c .others)))
 
   pub chosen-all : (total best k : ℕ) → Chosen total best k → k ≤ top
       → Joined parallel rs end w

@@ -13,7 +13,7 @@ use Rattle.poset.specs.Tree.{Kind, series, parallel, Tree, leaf, node, Forest, 
 use Rattle.poset.proofs.Laws.{decided, ltb-true}
 use Rattle.poset.proofs.Meaning.{means-fits}
 use Rattle.longest.specs.Chains.{InOrder, empty, next, IsLongest}
-use Rattle.longest.specs.Longest.{Stretch, joinedRuns, longest, forestLongest, trees, FirstGreatest}
+use Rattle.longest.specs.Longest.{WorkRun, joinedRuns, longest, forestLongest, trees, FirstGreatest}
 use Rattle.longest.proofs.Heaviest.{heaviest, forestHeaviest, Laid, Attained, not-less, attained, laid-distinct, laid-near, not-heavier}
 
 mutual
@@ -64,17 +64,17 @@ series-adds hours (last t) = λ i. (add-nothing i, sym (append-nil (longest hour
   where
     add-nothing : longest hours t .0 ≡ longest hours t .0 + 0
     add-nothing = omega arith
-series-adds hours (more t f) = ap (λ (b : Stretch). joinedRuns series (longest hours t) b) (series-adds hours f)
+series-adds hours (more t f) = ap (λ (b : WorkRun). joinedRuns series (longest hours t) b) (series-adds hours f)
 
-abbrev Taken : (ℕ → ℕ) → List Tree → Stretch → Type 0
+abbrev Taken : (ℕ → ℕ) → List Tree → WorkRun → Type 0
 Taken hours cs a = (c : Tree) × FirstGreatest hours cs c × (a ≡ longest hours c)
 
-one-more : (hours : ℕ → ℕ) (t : Tree) (cs : List Tree) (b : Stretch) → Taken hours cs b → Taken hours (t ∷ cs) (joinedRuns parallel (longest hours t) b)
+one-more : (hours : ℕ → ℕ) (t : Tree) (cs : List Tree) (b : WorkRun) → Taken hours cs b → Taken hours (t ∷ cs) (joinedRuns parallel (longest hours t) b)
 unfolding joinedRuns
 one-more hours t cs b (c, first, is) =
     ⊎-elim
     (λ (e : ltb (longest hours t .0) (b .0) ≡ true).
-    let l : longest hours t .0 < longest hours c .0 = omega (arith, ltb-true (longest hours t .0) (b .0) e, ap (λ (x : Stretch). x .0) is) in
+    let l : longest hours t .0 < longest hours c .0 = omega (arith, ltb-true (longest hours t .0) (b .0) e, ap (λ (x : WorkRun). x .0) is) in
     rw e (
       c,
       record {
@@ -91,7 +91,7 @@ one-more hours t cs b (c, first, is) =
       is,
     ))
     (λ (e : ltb (longest hours t .0) (b .0) ≡ false).
-    let l : longest hours c .0 ≤ longest hours t .0 = omega (arith, not-less (longest hours t .0) (b .0) e, ap (λ (x : Stretch). x .0) is) in
+    let l : longest hours c .0 ≤ longest hours t .0 = omega (arith, not-less (longest hours t .0) (b .0) e, ap (λ (x : WorkRun). x .0) is) in
     rw e (
       t,
       record {

@@ -10,16 +10,15 @@ use lib.ListN.{length, length-append}
 use Rattle.poset.specs.Lists.{occurrences, sum}
 use Rattle.poset.specs.Tree.{Kind, series, parallel, Tree, leaf, node, Forest, last, more, leaves, forestLeaves}
 use Rattle.poset.proofs.Laws.{decided, count-append}
-use Rattle.poset.proofs.Sums.{sum-const}
-use Rattle.longest.specs.Longest.{Stretch, joinedRuns, longest, forestLongest}
+use Rattle.poset.proofs.Sums.{sum-const, sum-append}
+use Rattle.longest.specs.Longest.{WorkRun, joinedRuns, longest, forestLongest}
 use Rattle.longest.specs.Stack.{jobsOf}
-use Rattle.longest.proofs.Sums.{sum-append}
 
 -- a measure that two runs one after the other have together at most
-abbrev pub Measure : (Stretch → ℕ) → Type 0
-Measure μ = (a b : Stretch) → μ (a .0 + b .0, a .1 ++ b .1) ≤ μ a + μ b
+abbrev pub Measure : (WorkRun → ℕ) → Type 0
+Measure μ = (a b : WorkRun) → μ (a .0 + b .0, a .1 ++ b .1) ≤ μ a + μ b
 
-pub joined-measure : (μ : Stretch → ℕ) → Measure μ → (k : Kind) (a b : Stretch) → μ (joinedRuns k a b) ≤ μ a + μ b
+pub joined-measure : (μ : WorkRun → ℕ) → Measure μ → (k : Kind) (a b : WorkRun) → μ (joinedRuns k a b) ≤ μ a + μ b
 unfolding joinedRuns
 joined-measure μ m series a b = m a b
 joined-measure μ m parallel a b =
@@ -28,8 +27,8 @@ joined-measure μ m parallel a b =
     (λ (e : ltb (a .0) (b .0) ≡ false). rw e (omega arith))
     (decided (ltb (a .0) (b .0)))
 
-module _ (hours : ℕ → ℕ) (μ : Stretch → ℕ) (m : Measure μ) (w : ℕ → ℕ) (alone : (j : ℕ) → μ (hours j, j ∷ []) ≤ w j) where
-  group-measured : (k : Kind) (a b : Stretch) (xs ys : List ℕ) → μ a ≤ sum w xs → μ b ≤ sum w ys → μ (joinedRuns k a b) ≤ sum w (xs ++ ys)
+module _ (hours : ℕ → ℕ) (μ : WorkRun → ℕ) (m : Measure μ) (w : ℕ → ℕ) (alone : (j : ℕ) → μ (hours j, j ∷ []) ≤ w j) where
+  group-measured : (k : Kind) (a b : WorkRun) (xs ys : List ℕ) → μ a ≤ sum w xs → μ b ≤ sum w ys → μ (joinedRuns k a b) ≤ sum w (xs ++ ys)
   group-measured k a b xs ys p q = omega (arith, joined-measure μ m k a b, sum-append w xs ys)
 
   mutual
@@ -56,7 +55,7 @@ module _ (most : ℕ) (hours : ℕ → ℕ) (small : (u : ℕ) → hours u ≤ m
   pub run-small : (t : Tree) → longest hours t .0 ≤ most * length (leaves t)
   run-small t = omega (arith, measured hours (λ a. a .0) (λ a b. omega arith) (λ j. most) small t, sum-const most (leaves t))
 
-  pub runs-small : (ts : List Tree) → sum (λ (a : Stretch). a .0) (map (longest hours) ts) ≤ most * length (flatMap leaves ts)
+  pub runs-small : (ts : List Tree) → sum (λ (a : WorkRun). a .0) (map (longest hours) ts) ≤ most * length (flatMap leaves ts)
   runs-small ts = omega (arith, row-measured hours (λ a. a .0) (λ a b. omega arith) (λ j. most) small ts, sum-const most (flatMap leaves ts))
 
 -- how many jobs
@@ -71,7 +70,7 @@ run-short hours t =
 -- how often one stands in it
 
 module _ (u : ℕ) where
-  abbrev times : Stretch → ℕ
+  abbrev times : WorkRun → ℕ
   times a = occurrences u (a .1)
 
   pub counts : Measure times
@@ -82,7 +81,7 @@ module _ (u : ℕ) where
   count-sum [] = refl
   count-sum (x ∷ xs) = omega (arith, count-sum xs, count-append u (x ∷ []) xs)
 
-  jobs-sum : (rs : List Stretch) → sum times rs ≡ occurrences u (jobsOf rs)
+  jobs-sum : (rs : List WorkRun) → sum times rs ≡ occurrences u (jobsOf rs)
   unfolding occurrences flatMap
   jobs-sum [] = refl
   jobs-sum (a ∷ rs) = omega (arith, jobs-sum rs, count-append u (a .1) (jobsOf rs))

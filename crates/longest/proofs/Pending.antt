@@ -3,13 +3,13 @@ use Prim.Native.Nat.{ℕ, zero, suc, _-_, _≤_, _<_}
 use mathlib.Core.Path.{_≡_, refl, sym, ap, subst, _∙_}
 use mathlib.Core.List.{List, [], _∷_, _++_, flatMap, append-nil, append-assoc}
 use native.Mathlib.Omega.{arith}
-use lib.ListN.{length, getD, replicate, length-append}
+use lib.ListN.{length, getD, replicate}
 use lib.Seq.{getD-take}
 use Rattle.poset.specs.Lists.{occurrences}
 use Rattle.poset.specs.Tree.{Tree, leaf, node, Forest, last, more, leaves, forestLeaves}
 use Rattle.poset.proofs.Laws.{count-append, flatMap-append}
-use Rattle.record.proofs.Sizes.{Small, small-right, groups-lt}
-use Rattle.record.proofs.Tokens.{tokens-length}
+use Rattle.record.proofs.Sizes.{Small, small-left, small-right}
+use Rattle.record.proofs.Tokens.{tokens-few}
 use Rattle.record.specs.Tokens.{tokens, forestTokens, nodeRoom}
 use Rattle.longest.specs.Longest.{longest, trees}
 use Rattle.longest.specs.Stack.{Step, one-leaf, one-group, Fits, Runs, runs, Stacked, Listed, Found}
@@ -90,7 +90,7 @@ module _ (t : Tree) (list : List ℕ) (count : ℕ) (l : Listed t list count) wh
 
   pub nodes-few : count ≤ nodeRoom
   unfolding flatMap
-  nodes-few = omega (arith, l .number, tokens-length t, groups-lt t, l .fits .small .1, length-append (leaves t) [])
+  nodes-few = omega (arith, l .number, tokens-few t (small-left (leaves t) [] (l .fits .small)))
 
   pub row-end : (next : List ℕ) → length next ≡ 128 → (hours : ℕ → ℕ)
       → Stacked hours (pending count (spells t)) 128 (runs (replicate 128 0) (replicate 128 0) (replicate 128 0) next)

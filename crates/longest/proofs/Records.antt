@@ -3,7 +3,7 @@ use Prim.Native.Nat.{ℕ, _*_, _≤_}
 use mathlib.Core.Path.{_≡_, ap, subst}
 use mathlib.Core.List.{List, []}
 use mathlib.Core.Option.{none, some}
-use mathlib.Core.Logic.{_↔_, _≢_, ⊎-elim}
+use mathlib.Core.Logic.{_↔_, _≢_, _⊎_, inl, inr, ⊎-elim}
 use native.Mathlib.Omega.{arith}
 use Rattle.poset.specs.Order.{Rel}
 use Rattle.poset.specs.Tree.{Tree, Means}
@@ -23,20 +23,29 @@ use Rattle.longest.proofs.Stacking.{hours-most}
 
 -- bytes that are none, and the record of a tree
 
-abbrev Found : List ℕ → Type 0
-Found bytes = (x : ℕ × Tree × List ℕ) × (decode bytes ≡ some x)
+abbrev pub noRun : RunOutcome
+noRun = record { verdict = answer 11 0 0 0 0; total = 0; jobs = [] }
 
-none-told : (bytes : List ℕ) → decode bytes ≡ none → runOutcome bytes ≡ record { verdict = answer 11 0 0 0 0; total = 0; jobs = [] }
+abbrev pub treeRun : Tree → List ℕ → RunOutcome
+treeRun t hours = let run = longest (hoursOf hours) t in record { verdict = answer 0 0 0 0 0; total = run .0; jobs = run .1 }
+
+none-told : (bytes : List ℕ) → decode bytes ≡ none → runOutcome bytes ≡ noRun
 unfolding runOutcome
 none-told bytes e = rw (runOutcome, e)
 
-some-told : (bytes : List ℕ) (x : ℕ × Tree × List ℕ) → decode bytes ≡ some x
-    → runOutcome bytes ≡ record { verdict = answer 0 0 0 0 0; total = longest (hoursOf (x .2)) (x .1) .0; jobs = longest (hoursOf (x .2)) (x .1) .1 }
+some-told : (bytes : List ℕ) (x : ℕ × Tree × List ℕ) → decode bytes ≡ some x → runOutcome bytes ≡ treeRun (x .1) (x .2)
 unfolding runOutcome
 some-told bytes x e = rw (runOutcome, e)
 
+pub run-either : (bytes : List ℕ) → ((t : Tree) × (hours : List ℕ) × (runOutcome bytes ≡ treeRun t hours)) ⊎ (runOutcome bytes ≡ noRun)
+run-either bytes =
+    ⊎-elim
+    (λ (h : (x : ℕ × Tree × List ℕ) × (decode bytes ≡ some x)). inl (h .0 .1, h .0 .2, some-told bytes (h .0) (h .1)))
+    (λ (h : decode bytes ≡ none). inr (none-told bytes h))
+    (found-or-none (decode bytes))
+
 pub run-told : (bytes : List ℕ) (n : ℕ) (t : Tree) (hours : List ℕ) → IsRecord bytes n t hours
-    → runOutcome bytes ≡ record { verdict = answer 0 0 0 0 0; total = longest (hoursOf hours) t .0; jobs = longest (hoursOf hours) t .1 }
+    → runOutcome bytes ≡ treeRun t hours
 run-told bytes n t hours r =
     some-told bytes (n, t, hours) (decode-record bytes n t hours (subst (AllBelow 256) (r .spelt) (layout-below n hours t)) .1 r)
 
@@ -47,12 +56,12 @@ run-refused bytes below = (
   λ h. ap (λ (o : RunOutcome). o .verdict .number) (none-told bytes (decode-none bytes below .1 h)),
 )
 
-pub run-empty : (bytes : List ℕ) → runOutcome bytes .verdict .number ≢ 0 → runOutcome bytes ≡ record { verdict = answer 11 0 0 0 0; total = 0; jobs = [] }
+pub run-empty : (bytes : List ℕ) → runOutcome bytes .verdict .number ≢ 0 → runOutcome bytes ≡ noRun
 run-empty bytes refused =
     ⊎-elim
-    (λ (h : Found bytes). absurd (refused (ap (λ (o : RunOutcome). o .verdict .number) (some-told bytes (h .0) (h .1)))))
-    (none-told bytes)
-    (found-or-none (decode bytes))
+    (λ (h : (t : Tree) × (hours : List ℕ) × (runOutcome bytes ≡ treeRun t hours)). absurd (refused (ap (λ (o : RunOutcome). o .verdict .number) (h .2))))
+    (λ (h : runOutcome bytes ≡ noRun). h)
+    (run-either bytes)
 
 -- the run of a record, in the order that its tree means
 

@@ -1,7 +1,7 @@
 -- One node more on the stack of runs.
 use Prim.Native.Nat.{ℕ, suc, _+_, _-_, _%_, _^_, _≤_, _<_}
 use mathlib.Core.Path.{_≡_, refl, ap, subst}
-use mathlib.Core.List.{List, [], _∷_, _++_, map, flatMap, append-nil, List·Memᴰ·head}
+use mathlib.Core.List.{List, [], _∷_, _++_, map, flatMap, append-nil, List·Memᴰ·head, map-append}
 use native.Mathlib.Omega.{arith}
 use lib.ListN.{length, set, length-append, length-map}
 use Rattle.poset.specs.Lists.{occurrences}
@@ -10,10 +10,11 @@ use Rattle.poset.proofs.Laws.{count-append, mem-count, count-mem}
 use Rattle.record.specs.Bits.{AllBelow}
 use Rattle.record.specs.Layout.{hoursBits, mostHours, kindBit, moreChildren, hoursOf}
 use Rattle.record.proofs.Entries.{entry-below}
-use Rattle.record.proofs.Sizes.{kind-below, groups-lt}
+use Rattle.record.proofs.Sizes.{kind-below, groups-lt, small-left}
+use Rattle.record.proofs.Tokens.{children-few}
 use Rattle.reader.specs.Parts.{alone}
 use Rattle.record.specs.Tokens.{groupToken}
-use Rattle.longest.specs.Longest.{Stretch, joinedRuns, longest, trees}
+use Rattle.longest.specs.Longest.{WorkRun, joinedRuns, longest, trees}
 use Rattle.longest.specs.Stack.{Step, one-leaf, one-group, Fits, Runs, runs, Entry, Entries, runOf, Beside, Joined, Stacked}
 use Rattle.longest.proofs.Measures.{runs-small, runs-of-leaves}
 use Rattle.longest.proofs.Entries.{entries-kept, entries-append, entry-put}
@@ -29,10 +30,6 @@ pub trees-leaves : (f : Forest) → flatMap leaves (trees f) ≡ forestLeaves f
 unfolding trees leaves flatMap
 trees-leaves (last t) = append-nil (leaves t)
 trees-leaves (more t f) = ap (λ (l : List ℕ). leaves t ++ l) (trees-leaves f)
-
-map-append : (f : Tree → Stretch) (ts us : List Tree) → map f (ts ++ us) ≡ map f ts ++ map f us
-map-append f [] us = refl
-map-append f (t ∷ ts) us = ap (λ (l : List Stretch). f t ∷ l) (map-append f ts us)
 
 pub hours-most : (hours : List ℕ) → AllBelow (2 ^ hoursBits) hours → (u : ℕ) → hoursOf hours u ≤ mostHours
 hours-most hours low u = omega (arith, entry-below hours u (2 ^ hoursBits) (omega arith) low)
@@ -103,9 +100,6 @@ module _ (hours : ℕ → ℕ) (top : ℕ) (w : Runs) where
         let place : top + length (map (longest hours) children) ≡ suc end = omega (arith, length-map children (longest hours), trees-length f) in
         (es, subst (λ (i : ℕ). Entries w i (map (longest hours) rest)) place fs)
 
-    pub children-few : moreChildren f < 128
-    children-few = omega (arith, few, row-length children, trees-length f)
-
     pub children-beside : Beside (map (longest hours) children) top end w
     children-beside =
         record {
@@ -136,6 +130,10 @@ module _ (hours : ℕ → ℕ) (top : ℕ) (w : Runs) where
 
 -- any node
 
+few-children : (k : Kind) (t : Tree) (f : Forest) (rest : List Tree) → Fits (node k t f ∷ rest) → moreChildren f < 128
+unfolding leaves flatMap
+few-children k t f rest fits = children-few t f (small-left (leaves t ++ forestLeaves f) (flatMap leaves rest) (fits .small))
+
 -- what is seen of a group's token
 abbrev pub IsGroup : Kind → ℕ → Type 0
 IsGroup series token = (256 ≤ token) × (token < 384)
@@ -150,14 +148,14 @@ module _ (hours : ℕ → ℕ) (most : (u : ℕ) → hours u ≤ mostHours) (top
 
   -- the runs of a group's children, up to `end`, and what follows where they are joined there
   pub record Opened (k : Kind) (end : ℕ) (us : List Tree) : Type 0 where
-    pub children : List Stretch
+    pub children : List WorkRun
     pub beside : Beside children top end w
     pub closed : (v : Runs) → Joined k children end w v → Stacked hours us end v
 
   opened : (k : Kind) (t : Tree) (f : Forest) (rest : List Tree) → Fits (node k t f ∷ rest) → Stacked hours (t ∷ trees f ++ rest) top w
       → Opened k (top + groupToken k (moreChildren f) % 128) (node k t f ∷ rest)
   opened k t f rest fits s =
-      let few = children-few hours top w most k t f rest fits s in
+      let few = few-children k t f rest fits in
       let end : top + moreChildren f ≡ top + groupToken k (moreChildren f) % 128 = omega (arith, kind-below k) in
       subst (λ (e : ℕ). Opened k e (node k t f ∷ rest)) end (record {
         children = map (longest hours) (t ∷ trees f);
@@ -173,5 +171,5 @@ module _ (hours : ℕ → ℕ) (most : (u : ℕ) → hours u ≤ mostHours) (top
   taken-group series token g ts us (one-group {rest} series t f) fits s = opened series t f rest fits s
   taken-group series token g ts us (one-group {rest} parallel t f) fits s = absurd (omega (arith, g .1))
   taken-group parallel token g ts us (one-group {rest} series t f) fits s =
-      absurd (omega (arith, g, children-few hours top w most series t f rest fits s))
+      absurd (omega (arith, g, few-children series t f rest fits))
   taken-group parallel token g ts us (one-group {rest} parallel t f) fits s = opened parallel t f rest fits s

@@ -1,7 +1,7 @@
--- Sums over parts of a list, and over lists without repeats.
+-- Lists without repeats, and sums over them.
 use Prim.Native.Nat.{ℕ, _+_, _≤_}
 use mathlib.Core.Path.{_≡_, refl, sym, ap, _∙_}
-use mathlib.Core.List.{List, [], _∷_, _++_, List·Memᴰ, List·Memᴰ·head, List·Memᴰ·tail}
+use mathlib.Core.List.{List, [], _∷_, List·Memᴰ, List·Memᴰ·head, List·Memᴰ·tail}
 use mathlib.Core.Bool.{Bool, true, false, cond}
 use mathlib.Core.Logic.{⊎-elim}
 use native.Mathlib.Omega.{arith}
@@ -9,22 +9,7 @@ use lib.Dec.{eqb}
 use Rattle.poset.specs.Lists.{exists, member, occurrences, sum}
 use Rattle.poset.proofs.Laws.{decided, clash, false-unless, eqb-true, eqb-same, any-yes, any-not, member-mem}
 use Rattle.poset.proofs.Laws.{count-same, count-other, mem-count, count-zero, count-append}
-use Rattle.poset.proofs.Sums.{sum-le}
-
-module _ {ℓ} {A : Type ℓ} where
-  pub sum-append : (f : A → ℕ) (xs ys : List A) → sum f (xs ++ ys) ≡ sum f xs + sum f ys
-  sum-append f [] ys = omega arith
-  sum-append f (x ∷ xs) ys = omega (arith, sum-append f xs ys)
-
-  pub sum-zero : (f : A → ℕ) (xs : List A) → ((x : A) → List·Memᴰ x xs → f x ≡ 0) → sum f xs ≡ 0
-  sum-zero f [] h = refl
-  sum-zero f (x ∷ xs) h = omega (arith, h x (List·Memᴰ·head refl), sum-zero f xs (λ y m. h y (List·Memᴰ·tail m)))
-
-  -- f is at most g everywhere, and by c less at one element
-  pub sum-gap : (f g : A → ℕ) (c : ℕ) → ((x : A) → f x ≤ g x) → {y : A} {xs : List A} → List·Memᴰ y xs → f y + c ≤ g y → sum f xs + c ≤ sum g xs
-  sum-gap f g c h (List·Memᴰ·head {x = x} {xs = xs} e) d =
-      omega (arith, ap f e, ap g e, sum-le f g xs (λ z m. h z))
-  sum-gap f g c h (List·Memᴰ·tail {x = x} {xs = xs} m) d = omega (arith, h x, sum-gap f g c h m d)
+use Rattle.poset.proofs.Sums.{sum-gap}
 
 -- a list without repeats
 
@@ -60,7 +45,7 @@ subset-sum w (x ∷ xs) ys d i =
     omega (
       arith,
       subset-sum w xs ys (distinct-tail x xs d) (λ u m. i u (List·Memᴰ·tail m)),
-      sum-gap (λ u. cond (member u xs) (w u) 0) (λ u. cond (member u (x ∷ xs)) (w u) 0) (w x) grows (i x (List·Memᴰ·head refl)) here,
+      sum-gap (λ u. cond (member u xs) (w u) 0) (λ u. cond (member u (x ∷ xs)) (w u) 0) (w x) (λ u m. grows u) (i x (List·Memᴰ·head refl)) here,
     )
   where
     grows : (u : ℕ) → cond (member u xs) (w u) 0 ≤ cond (member u (x ∷ xs)) (w u) 0

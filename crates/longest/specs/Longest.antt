@@ -8,20 +8,20 @@ use lib.Dec.{ltb}
 use Rattle.poset.specs.Tree.{Kind, series, parallel, Tree, leaf, node, Forest, last, more}
 
 -- a total of hours and the jobs that it is of, earliest first
-abbrev pub Stretch : Type 0
-Stretch = ℕ × List ℕ
+abbrev pub WorkRun : Type 0
+WorkRun = ℕ × List ℕ
 
 -- one after the other, or the one with the greater total, the first where they are equal
-unfoldable pub joinedRuns : Kind → Stretch → Stretch → Stretch
+unfoldable pub joinedRuns : Kind → WorkRun → WorkRun → WorkRun
 joinedRuns series a b = (a .0 + b .0, a .1 ++ b .1)
 joinedRuns parallel a b = cond (ltb (a .0) (b .0)) b a
 
 unfoldable mutual
-  pub longest : (ℕ → ℕ) → Tree → Stretch
+  pub longest : (ℕ → ℕ) → Tree → WorkRun
   longest hours (leaf j) = (hours j, j ∷ [])
   longest hours (node k t f) = joinedRuns k (longest hours t) (forestLongest hours k f)
 
-  pub forestLongest : (ℕ → ℕ) → Kind → Forest → Stretch
+  pub forestLongest : (ℕ → ℕ) → Kind → Forest → WorkRun
   forestLongest hours k (last t) = longest hours t
   forestLongest hours k (more t f) = joinedRuns k (longest hours t) (forestLongest hours k f)
 

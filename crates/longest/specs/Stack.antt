@@ -13,7 +13,7 @@ use Rattle.record.specs.Layout.{mostHours, moreChildren}
 use Rattle.record.proofs.Sizes.{Small}
 use Rattle.reader.specs.Parts.{Strand}
 use Rattle.record.specs.Tokens.{groupToken, tokens}
-use Rattle.longest.specs.Longest.{Stretch, joinedRuns, longest, trees}
+use Rattle.longest.specs.Longest.{WorkRun, joinedRuns, longest, trees}
 use Rattle.longest.specs.declared.stack.Run.{Run}
 use Rattle.longest.specs.declared.showing.Showing.{Showing}
 
@@ -44,11 +44,11 @@ pub record Sized (w : Runs) : Type 0 where
   pub next-size : length (w .next) ≡ 128
 
 -- the run a stands at an entry; runs stand at the entries from there on
-pub record Entry (w : Runs) (at : ℕ) (a : Stretch) : Type 0 where
+pub record Entry (w : Runs) (at : ℕ) (a : WorkRun) : Type 0 where
   pub total : getD (w .totals) at 0 ≡ a .0
   pub strand : Strand (w .next) (getD (w .firsts) at 0) (a .1) (getD (w .lasts) at 0)
 
-abbrev pub Entries : Runs → ℕ → List Stretch → Type 0
+abbrev pub Entries : Runs → ℕ → List WorkRun → Type 0
 Entries w at [] = Unit {0}
 Entries w at (a ∷ rs) = Entry w at a × Entries w (suc at) rs
 
@@ -58,17 +58,17 @@ pub record SameFrom (at : ℕ) (w v : Runs) : Type 0 where
   pub firsts-same : (i : ℕ) → at ≤ i → getD (v .firsts) i 0 ≡ getD (w .firsts) i 0
   pub lasts-same : (i : ℕ) → at ≤ i → getD (v .lasts) i 0 ≡ getD (w .lasts) i 0
 
-abbrev pub jobsOf : List Stretch → List ℕ
+abbrev pub jobsOf : List WorkRun → List ℕ
 jobsOf = flatMap (λ a. a .1)
 
 -- the run of a group of kind k whose children have these runs
-abbrev pub runOf : Kind → List Stretch → Stretch
+abbrev pub runOf : Kind → List WorkRun → WorkRun
 runOf k [] = (0, [])
 runOf k (a ∷ []) = a
 runOf k (a ∷ b ∷ rs) = joinedRuns k a (runOf k (b ∷ rs))
 
 -- the runs of a group's children, from the top of the stack to `end`
-pub record Beside (rs : List Stretch) (top end : ℕ) (w : Runs) : Type 0 where
+pub record Beside (rs : List WorkRun) (top end : ℕ) (w : Runs) : Type 0 where
   pub sized : Sized w
   pub some : 0 < length rs
   pub last : top + length rs ≡ suc end
@@ -76,17 +76,17 @@ pub record Beside (rs : List Stretch) (top end : ℕ) (w : Runs) : Type 0 where
   pub entries : Entries w top rs
   pub once : (u : ℕ) → occurrences u (jobsOf rs) ≤ 1
   pub small : AllBelow 128 (jobsOf rs)
-  pub low : sum (λ (a : Stretch). a .0) rs ≤ mostHours * 128
+  pub low : sum (λ (a : WorkRun). a .0) rs ≤ mostHours * 128
 
 -- the run of the group at `end`; what is further down is as it was, and so are the next jobs of others
-pub record Joined (k : Kind) (rs : List Stretch) (end : ℕ) (w v : Runs) : Type 0 where
+pub record Joined (k : Kind) (rs : List WorkRun) (end : ℕ) (w v : Runs) : Type 0 where
   pub sized : Sized v
   pub entry : Entry v end (runOf k rs)
   pub below : SameFrom (suc end) w v
   pub next-same : (u : ℕ) → (List·Memᴰ u (jobsOf rs) → ⊥) → getD (v .next) u 0 ≡ getD (w .next) u 0
 
 abbrev pub Joins : Kind → (top end : ℕ) → Runs → Runs → Type 0
-Joins k top end w v = (rs : List Stretch) → Beside rs top end w → Joined k rs end w v
+Joins k top end w v = (rs : List WorkRun) → Beside rs top end w → Joined k rs end w v
 
 -- the longest runs of the trees in a row, the first on top
 pub record Stacked (hours : ℕ → ℕ) (ts : List Tree) (top : ℕ) (w : Runs) : Type 0 where
@@ -104,7 +104,7 @@ pub record Listed (t : Tree) (list : List ℕ) (count : ℕ) : Type 0 where
   pub these : take count list ≡ tokens t
 
 -- the run a, by its total, its first and its last job
-pub record Found (a : Stretch) (next : List ℕ) (r : Run) : Type 0 where
+pub record Found (a : WorkRun) (next : List ℕ) (r : Run) : Type 0 where
   pub total-is : r .total ≡ a .0
   pub strand : Strand next (r .first) (a .1) (r .last)
 

@@ -5,7 +5,8 @@ mod stack;
 use analysis::Verdict;
 ghost use Rattle.longest.specs.Outcome.{runOutcome, Shows};
 
-// The answer, the total of hours, how many jobs the run has, and these, earliest first; the entries after them are 0. A refusal has none.
+// The answer, the total of hours, how many jobs the run has, and these, earliest first; the entries after them are 0. A refusal has a total and a
+// count of 0, and zeros alone.
 pub struct LongestRun {
     pub verdict: Verdict,
     pub total: usize,

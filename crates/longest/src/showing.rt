@@ -10,7 +10,7 @@ pub struct Showing {
     pub jobs: [u8; 128],
 }
 
-fn wide(x: u8) -> usize
+pub fn job(x: u8) -> usize
     ensures { λ r. ⌜ r ≡ x ⌝ }
 {
     x as usize
@@ -23,10 +23,10 @@ pub fn shown(next: &[u8; 128], first: u8, last: u8) -> Showing
 {
     let mut jobs = [0u8; 128];
     let mut count = 0;
-    let mut job = first;
-    while job != last {
-        jobs[count] = job;
-        job = next[wide(job)];
+    let mut present = first;
+    while present != last {
+        jobs[count] = present;
+        present = next[job(present)];
         count += 1;
     }
     jobs[count] = last;

@@ -1,13 +1,14 @@
 // The longest run, over a record's nodes from the last to the first. The trees that begin at the nodes taken so far stand in a row; a stack
 // has the run of each, the first on top. A run is its total, its first and its last job, and the jobs between by a list of next jobs.
-ghost use Prim.Native.Nat.{_^_};
+use crate::showing::job;
+ghost use Prim.Native.Nat.{ℕ, _^_};
 ghost use mathlib.Core.Path.{_≡_};
 ghost use mathlib.Core.List.{List};
 ghost use lib.ListN.{length};
 ghost use Rattle.poset.specs.Tree.{series, parallel, Tree};
 ghost use Rattle.record.specs.Bits.{AllBelow};
 ghost use Rattle.record.specs.Layout.{hoursBits, hoursOf};
-ghost use Rattle.longest.specs.Longest.{Stretch, longest};
+ghost use Rattle.longest.specs.Longest.{WorkRun, longest};
 ghost use Rattle.longest.specs.Stack.{runs, Beside, Joins, Step, Fits, Stacked, Stacks, Listed, Found};
 
 // The hours together, and the ends of the run.
@@ -23,13 +24,7 @@ fn wide(x: u16) -> usize
     x as usize
 }
 
-fn job(x: u8) -> usize
-    ensures { λ r. ⌜ r ≡ x ⌝ }
-{
-    x as usize
-}
-
-fn hours_of(x: u16) -> u32
+fn total_of(x: u16) -> u32
     ensures { λ r. ⌜ r ≡ x ⌝ }
 {
     x as u32
@@ -41,13 +36,13 @@ fn chain(
     end: usize,
     totals: &mut [u32; 128],
     firsts: &mut [u8; 128],
-    lasts: &mut [u8; 128],
+    lasts: &[u8; 128],
     next: &mut [u8; 128],
 )
-    requires { ⌜ ((rs : List Stretch) × Beside rs top end (runs (now totals) (now firsts) (now lasts) (now next))) ⌝ }
+    requires { ⌜ ((rs : List WorkRun) × Beside rs top end (runs (now totals) (now firsts) (now lasts) (now next))) ⌝ }
     ensures { λ _. ⌜ Joins series top end
         (runs (now (totals .entry)) (now (firsts .entry)) (now (lasts .entry)) (now (next .entry)))
-        (runs (now (totals .exit)) (now (firsts .exit)) (now (lasts .exit)) (now (next .exit))) ⌝ }
+        (runs (now (totals .exit)) (now (firsts .exit)) (now (lasts .entry)) (now (next .exit))) ⌝ }
 {
     let mut total = totals[end];
     let mut first = firsts[end];
@@ -70,12 +65,11 @@ fn side(
     totals: &mut [u32; 128],
     firsts: &mut [u8; 128],
     lasts: &mut [u8; 128],
-    next: &mut [u8; 128],
 )
-    requires { ⌜ ((rs : List Stretch) × Beside rs top end (runs (now totals) (now firsts) (now lasts) (now next))) ⌝ }
-    ensures { λ _. ⌜ Joins parallel top end
-        (runs (now (totals .entry)) (now (firsts .entry)) (now (lasts .entry)) (now (next .entry)))
-        (runs (now (totals .exit)) (now (firsts .exit)) (now (lasts .exit)) (now (next .exit))) ⌝ }
+    requires { ⌜ ((next : List ℕ) × (rs : List WorkRun) × Beside rs top end (runs (now totals) (now firsts) (now lasts) next)) ⌝ }
+    ensures { λ _. ⌜ ((next : List ℕ) → Joins parallel top end
+        (runs (now (totals .entry)) (now (firsts .entry)) (now (lasts .entry)) next)
+        (runs (now (totals .exit)) (now (firsts .exit)) (now (lasts .exit)) next)) ⌝ }
 {
     let mut total = totals[end];
     let mut best = end;
@@ -110,7 +104,7 @@ fn taken(
 {
     if token < 256 {
         let at = top - 1;
-        totals[at] = hours_of(hours[token]);
+        totals[at] = total_of(hours[token]);
         firsts[at] = token as u8;
         lasts[at] = token as u8;
         return at;
@@ -120,7 +114,7 @@ fn taken(
         chain(top, end, totals, firsts, lasts, next);
         return end;
     }
-    side(top, end, totals, firsts, lasts, next);
+    side(top, end, totals, firsts, lasts);
     end
 }
 

@@ -1,7 +1,7 @@
 -- Lengths, and sums over a list.
 use Prim.Native.Nat.{ℕ, zero, suc, _+_, _*_, _≤_, _<_}
 use mathlib.Core.Path.{_≡_, refl, sym, ap, _∙_}
-use mathlib.Core.List.{List, [], _∷_, flatMap, List·Memᴰ, List·Memᴰ·head, List·Memᴰ·tail, List·Memᴰ·cases-cons, List·Memᴰ·eq-of-singleton}
+use mathlib.Core.List.{List, [], _∷_, _++_, flatMap, List·Memᴰ, List·Memᴰ·head, List·Memᴰ·tail, List·Memᴰ·cases-cons, List·Memᴰ·eq-of-singleton}
 use mathlib.Core.Bool.{Bool, false, cond}
 use mathlib.Core.Logic.{⊎-elim}
 use native.Mathlib.Decide.{decLe}
@@ -18,6 +18,21 @@ module _ {ℓ} {A : Type ℓ} where
   pub sum-le : (f g : A → ℕ) (xs : List A) → ((x : A) → List·Memᴰ x xs → f x ≤ g x) → sum f xs ≤ sum g xs
   sum-le f g [] h = omega arith
   sum-le f g (x ∷ xs) h = omega (arith, h x (List·Memᴰ·head refl), sum-le f g xs (λ y m. h y (List·Memᴰ·tail m)))
+
+  -- f is at most g, and by c less at one element
+  pub sum-gap : (f g : A → ℕ) (c : ℕ) {y : A} {xs : List A} → ((x : A) → List·Memᴰ x xs → f x ≤ g x) → List·Memᴰ y xs → f y + c ≤ g y
+      → sum f xs + c ≤ sum g xs
+  sum-gap f g c h (List·Memᴰ·head {x = x} {xs = xs} e) d = omega (arith, ap f e, ap g e, sum-le f g xs (λ z m. h z (List·Memᴰ·tail m)))
+  sum-gap f g c h (List·Memᴰ·tail {x = x} {xs = xs} m) d =
+      omega (arith, h x (List·Memᴰ·head refl), sum-gap f g c (λ z k. h z (List·Memᴰ·tail k)) m d)
+
+  pub sum-zero : (f : A → ℕ) (xs : List A) → ((x : A) → List·Memᴰ x xs → f x ≡ 0) → sum f xs ≡ 0
+  sum-zero f [] h = refl
+  sum-zero f (x ∷ xs) h = omega (arith, h x (List·Memᴰ·head refl), sum-zero f xs (λ y m. h y (List·Memᴰ·tail m)))
+
+  pub sum-append : (f : A → ℕ) (xs ys : List A) → sum f (xs ++ ys) ≡ sum f xs + sum f ys
+  sum-append f [] ys = omega arith
+  sum-append f (x ∷ xs) ys = omega (arith, sum-append f xs ys)
 
   pub sum-add : (f g : A → ℕ) (xs : List A) → sum (λ x. f x + g x) xs ≡ sum f xs + sum g xs
   sum-add f g [] = omega arith

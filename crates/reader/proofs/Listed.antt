@@ -60,7 +60,7 @@ module _ (bytes : List ℕ) (count : ℕ) (t : Tree) (h : HasNodes bytes count t
   small = spans-small (h .jobs) t (h .spelt .most) (h .spelt .spans)
 
   nodes-few : count ≤ nodeRoom
-  nodes-few = omega (arith, h .number, tokens-few (h .jobs) t (h .spelt .most) (h .spelt .spans))
+  nodes-few = omega (arith, h .number, tokens-few t (spans-small (h .jobs) t (h .spelt .most) (h .spelt .spans)))
 
   pub listed-none : Listed (bitsOf bytes) (h .hours) (tokens t) 0 7 (replicate nodeRoom 0)
   listed-none = record {

@@ -119,7 +119,8 @@ pub fn read_record(bytes: &[u8]) -> Reading
 }
 
 // ok: whether the bytes are a record. Then the job count, how many nodes its tree has, these in their order, node before children,
-// as tokens, and the hours of each job; the entries after them are 0, and all are 0 otherwise.
+// as tokens (a leaf is its job; a group is 256, 128 for a side group, and its children minus 1), and the hours of each job; the entries after
+// them are 0, and all are 0 otherwise.
 pub struct NodeList {
     pub ok: bool,
     pub jobs: usize,

@@ -6,13 +6,13 @@ use mathlib.Core.Logic.{_⊎_, inl, inr}
 use native.Mathlib.Omega.{arith}
 use lib.Dec.{ltb}
 use lib.ListN.{length, getD, length-append}
-use Rattle.poset.specs.Tree.{Kind, Tree, leaf, node, Forest, last, more, leaves, forestLeaves, groups, forestGroups, Spans}
+use Rattle.poset.specs.Tree.{Kind, Tree, leaf, node, Forest, last, more, leaves, forestLeaves, groups, forestGroups}
 use Rattle.poset.proofs.Laws.{lt-true, ltb-true, false-unless, flatMap-append}
 use Rattle.record.specs.Bits.{bits}
 use Rattle.record.specs.Layout.{hoursBits, leafBits, kindBit, moreChildren, hoursOf, treeBits, forestBits}
 use Rattle.record.specs.Tokens.{groupToken, tokens, forestTokens, fieldBits, nodeRoom}
 use Rattle.record.proofs.Fields.{length-bits, bits-cons}
-use Rattle.record.proofs.Sizes.{groups-lt, forest-groups, kind-below, length-leaves, Small, small-left, small-right}
+use Rattle.record.proofs.Sizes.{groups-lt, forest-groups, kind-below, Small, small-left, small-right}
 
 -- a token is a leaf and its hours, or a 1 and a byte
 module _ (hours : List ℕ) (x : ℕ) where
@@ -53,7 +53,7 @@ module _ (hours : List ℕ) where
       group-is hours (groupToken k m) (omega arith) ∙ ap (λ l. 1 ∷ l) (ap (bits 8) e ∙ bits-cons 7 (kindBit k) m (kind-below k) (omega arith))
 
 -- a group has at most 128 children
-children-few : (t : Tree) (f : Forest) → Small (leaves t ++ forestLeaves f) → moreChildren f < 128
+pub children-few : (t : Tree) (f : Forest) → Small (leaves t ++ forestLeaves f) → moreChildren f < 128
 children-few t f h = omega (arith, h .1, length-append (leaves t) (forestLeaves f), groups-lt t, forest-groups f)
 
 module _ (hours : List ℕ) where
@@ -91,8 +91,8 @@ mutual
   forest-tokens-length (more t f) =
       both (tokens t) (forestTokens f) (leaves t) (forestLeaves f) (groups t) (forestGroups f) (tokens-length t) (forest-tokens-length f)
 
-pub tokens-few : (n : ℕ) (t : Tree) → n ≤ 128 → Spans n t → length (tokens t) ≤ nodeRoom
-tokens-few n t few spans = omega (arith, tokens-length t, groups-lt t, length-leaves n t spans)
+pub tokens-few : (t : Tree) → Small (leaves t) → length (tokens t) ≤ nodeRoom
+tokens-few t small = omega (arith, tokens-length t, groups-lt t, small .1)
 
 -- each is a leaf's, or a group's in 9 bits; so is the 0 after them
 

@@ -1,20 +1,14 @@
 -- How many jobs sets have.
-use Prim.Native.Nat.{ℕ, suc, _+_, _≤_, _<_}
-use mathlib.Core.Path.{_≡_, refl, sym, ap, ap₂, _∙_}
-use mathlib.Core.List.{List, [], _∷_, List·Memᴰ, List·Memᴰ·head, List·Memᴰ·tail}
+use Prim.Native.Nat.{ℕ, _+_, _≤_, _<_}
+use mathlib.Core.Path.{_≡_, refl, ap, ap₂, _∙_}
+use mathlib.Core.List.{List, []}
 use mathlib.Core.Bool.{Bool, true, false, _&&_, _||_, not}
 use native.Mathlib.Omega.{arith}
 use lib.ListN.{length}
 use Rattle.poset.specs.Lists.{exists, sum, below}
-use Rattle.poset.proofs.Laws.{clash, false-unless, any-none, mem-below, below-mem}
-use Rattle.poset.proofs.Sums.{length-keep, bit, sum-le, sum-add}
+use Rattle.poset.proofs.Laws.{clash, any-none, mem-below, below-mem}
+use Rattle.poset.proofs.Sums.{length-keep, bit, sum-gap, sum-add}
 use Rattle.relation.specs.Table.{has, members, Least}
-
-sum-lt {ℓ} : {A : Type ℓ} (f g : A → ℕ) {y : A} {xs : List A} → ((x : A) → List·Memᴰ x xs → f x ≤ g x) → List·Memᴰ y xs → f y < g y → sum f xs < sum g xs
-sum-lt f g {y} h (List·Memᴰ·head {x = x} {xs = xs} e) l =
-    omega (arith, ap f e, ap g e, sum-le f g xs (λ z m. h z (List·Memᴰ·tail m)))
-sum-lt f g {y} h (List·Memᴰ·tail {x = x} {xs = xs} m) l =
-    omega (arith, h x (List·Memᴰ·head refl), sum-lt f g (λ z k. h z (List·Memᴰ·tail k)) m l)
 
 -- how many jobs two sets have together
 count-two : (a b : List ℕ) → length (members a) + length (members b) ≡ sum (λ v. bit (has a v) + bit (has b v)) (below 128)
@@ -34,7 +28,7 @@ two-fall a b c d y small h l =
       arith,
       count-two a b,
       count-two c d,
-      sum-lt (λ v. bit (has c v) + bit (has d v)) (λ v. bit (has a v) + bit (has b v)) (λ v m. h v) (below-mem small) l,
+      sum-gap (λ v. bit (has c v) + bit (has d v)) (λ v. bit (has a v) + bit (has b v)) 1 (λ v m. h v) (below-mem small) (omega arith),
     )
 
 -- a set within another that lacks one of its jobs

@@ -14,7 +14,7 @@ use Rattle.poset.proofs.Laws.{clash}
 use Rattle.poset.proofs.Theorems.{tree-of-sound}
 use Rattle.record.specs.Bits.{bits, bytesOf}
 use Rattle.record.specs.Layout.{treeBits, layout, recordRoom}
-use Rattle.record.specs.Tokens.{tokens, fieldBits}
+use Rattle.record.specs.Tokens.{tokens, fieldBits, nodeRoom}
 use Rattle.record.proofs.Records.{layout-length}
 use Rattle.record.proofs.Sizes.{groups-lt, length-treeBits, length-leaves, spans-small}
 use Rattle.record.proofs.Tokens.{token-bits, tokens-few}
@@ -52,17 +52,17 @@ module _ (n : ℕ) (few : n ≤ 128) (r : Rel) (strict : Strict n r) (t : Tree) 
     count-is : s .count ≡ length (tokens t)
     count-is = ap (λ (s : Shape). s .count) is
 
-    pub count-fits : s .count ≤ 256
-    count-fits = omega (arith, count-is, tokens-few n t few spans)
+    pub count-fits : s .count ≤ nodeRoom
+    count-fits = omega (arith, count-is, tokens-few t (spans-small n t few spans))
 
-    pub fields-size : length (s .fields) ≡ 256
+    pub fields-size : length (s .fields) ≡ nodeRoom
     fields-size =
         ap (λ (s : Shape). length (s .fields)) is
-        ∙ length-append (tokens t) (replicate (256 - length (tokens t)) 0)
+        ∙ length-append (tokens t) (replicate (nodeRoom - length (tokens t)) 0)
         ∙ omega (arith, length-replicate {A = ℕ} (256 - length (tokens t)) 0, count-fits, count-is)
 
     fields-are : take (s .count) (s .fields) ≡ tokens t
-    fields-are = ap (λ (s : Shape). take (s .count) (s .fields)) is ∙ take-at (tokens t) (replicate (256 - length (tokens t)) 0) (length (tokens t)) refl
+    fields-are = ap (λ (s : Shape). take (s .count) (s .fields)) is ∙ take-at (tokens t) (replicate (nodeRoom - length (tokens t)) 0) (length (tokens t)) refl
 
     module _ (hours : List ℕ) where
       pub spells : Spells hours t (take (s .count) (s .fields))

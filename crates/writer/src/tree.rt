@@ -1,5 +1,6 @@
 //! The canonical tree of an order, written as its fields, node before children, from a stack of sets still to be taken apart.
 use crate::parts;
+use record::NODE_ROOM;
 use relation::set;
 ghost use Prim.Native.Nat.{ℕ, _+_, _-_, _<_, _≤_};
 ghost use mathlib.Core.Path.{_≡_};
@@ -82,7 +83,7 @@ pub struct Progress {
 
 // The top set is a single job: its field, and its place in both sequences.
 fn put_leaf(
-    fields: &mut [u16; 256],
+    fields: &mut [u16; NODE_ROOM],
     forward: &mut [u8; 128],
     reverse: &mut [u8; 128],
     starts: &[usize; 128],
@@ -127,7 +128,7 @@ fn group_field(series: bool, children: usize) -> u16
 
 // A group: its field.
 fn put_group(
-    fields: &mut [u16; 256],
+    fields: &mut [u16; NODE_ROOM],
     series: bool,
     children: usize,
     p: Progress,
@@ -259,7 +260,7 @@ fn compare(
 // The canonical tree of an order: whether there is one, its fields and groups, and the two sequences.
 pub struct Shape {
     pub ok: bool,
-    pub fields: [u16; 256],
+    pub fields: [u16; NODE_ROOM],
     pub count: usize,
     pub groups: usize,
     pub forward: [u8; 128],
@@ -271,7 +272,7 @@ fn no_shape() -> Shape
 {
     Shape {
         ok: false,
-        fields: [0; 256],
+        fields: [0; NODE_ROOM],
         count: 0,
         groups: 0,
         forward: [0; 128],
@@ -280,7 +281,7 @@ fn no_shape() -> Shape
 }
 
 // All is written.
-fn shaped(p: Progress, fields: [u16; 256], forward: [u8; 128], reverse: [u8; 128]) -> Shape
+fn shaped(p: Progress, fields: [u16; NODE_ROOM], forward: [u8; 128], reverse: [u8; 128]) -> Shape
     ensures { λ r. ⌜ r ≡ shaped p fields forward reverse ⌝ }
 {
     Shape {
@@ -311,7 +312,7 @@ pub fn shape_of(after: [[u64; 2]; 128], under: &[[u64; 2]; 128], n: usize) -> Sh
     let mut starts = [0; 128];
     let mut kinds = [false; 128];
     let mut sizes = [0; 128];
-    let mut fields = [0; 256];
+    let mut fields = [0; NODE_ROOM];
     let mut forward = [0; 128];
     let mut reverse = [0; 128];
     let first = first_entry(

@@ -40,12 +40,14 @@ pub fn any_trees(rng: &mut Rng, _: usize, tally: &mut Tally) {
 
 pub const EXTREME_PARTS: usize = 16;
 
-/// One group; groups of two, chain and side in turn, each the first or the last
-/// child of the one ahead; groups of about the same number of jobs in one group.
-/// Each with both kinds outermost, for every job count.
+/// One group; groups of two, chain and side in turn, each the first child of the
+/// one ahead, each the last, and each where its jobs put it; groups of about the
+/// same number of jobs in one group. Each with both kinds outermost, for every
+/// job count.
 pub fn extreme_trees(rng: &mut Rng, part: usize, tally: &mut Tally) {
     for count in (1..=MOST_JOBS - part).rev().step_by(EXTREME_PARTS) {
         let ascending: Vec<usize> = (0..count).collect();
+        let descending: Vec<usize> = (0..count).rev().collect();
         let any = any_jobs(rng, count);
         for side in [false, true] {
             for tree in [
@@ -53,7 +55,8 @@ pub fn extreme_trees(rng: &mut Rng, part: usize, tally: &mut Tally) {
                 blocks(&any, side, 1),
                 blocks(&any, side, 2),
                 blocks(&any, side, rng.from(1, count)),
-                nested(&ascending, side, false),
+                nested(&descending, side, false),
+                nested(&ascending, side, true),
                 nested(&any, side, true),
             ] {
                 let tree = plain(tree);

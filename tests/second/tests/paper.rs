@@ -595,7 +595,8 @@ fn longest_runs() {
         ("3/1/4/3/0 2/", 4, &[0, 2]),
         ("3/0/0/0/1 2/", 0, &[0]),
         ("3/0/0/0/0 2/", 0, &[0, 2]),
-        // The sample, with job 4 aside; then with 4 as long as the chain, then longer.
+        // The sample, with job 4 aside; then with a longer job 2, and with 4 as long as the
+        // chain, and longer.
         ("5/40/16/16/24/8/0 1/0 2/1 3/2 3/0 3/", 80, &[0, 1, 3]),
         ("5/40/16/17/24/8/0 1/0 2/1 3/2 3/0 3/", 81, &[0, 2, 3]),
         ("5/40/16/16/24/80/0 1/0 2/1 3/2 3/0 3/", 80, &[0, 1, 3]),

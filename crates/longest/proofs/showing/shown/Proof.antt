@@ -8,10 +8,10 @@ use Rattle.longest.proofs.showing.shown.Statement.{statement}
 use Rattle.longest.proofs.showing.shown.Tie as tie
 
 abbrev Inv-loop : tie.InvT-loop
-Inv-loop next first last jobs₀ count₀ job₀ jobs count job = (xs : List ℕ) (l : Linked next first last xs) → Showed next first last xs l jobs count job
+Inv-loop next first last jobs₀ count₀ present₀ jobs count present = (xs : List ℕ) (l : Linked next first last xs) → Showed next first last xs l jobs count present
 
 abbrev μ-loop : tie.MeasureT-loop
-μ-loop next first last jobs₀ count₀ job₀ jobs count job = 128 - count
+μ-loop next first last jobs₀ count₀ present₀ jobs count present = 128 - count
 
 in-room : (c : tie.At-loop Inv-loop μ-loop) → c .loop .count < 128
 in-room c = let (xs, l) = c .before .pre in room _ _ _ xs l _ _ _ (c .loop .inv xs l)
@@ -22,14 +22,14 @@ loop-holds c = λ xs l. showed-none _ _ _ xs l
 array-write-jobs : tie.Need-array-write-jobs Inv-loop μ-loop
 array-write-jobs c = in-room (c .before)
 
-wide-requires : tie.Need-wide-requires Inv-loop μ-loop
-wide-requires c κs = tt
+job-requires : tie.Need-job-requires Inv-loop μ-loop
+job-requires c κs = tt
 
-element-copy-out-job : tie.Need-element-copy-out-job Inv-loop μ-loop
-element-copy-out-job c =
+element-copy-out-present : tie.Need-element-copy-out-present Inv-loop μ-loop
+element-copy-out-present c =
     let i = c .before .before in
     let (xs, l) = i .before .pre in
-    rw (c .wide .ensures) (job-small _ _ _ xs l _ _ _ (i .loop .inv xs l))
+    rw (c .job .ensures) (job-small _ _ _ xs l _ _ _ (i .loop .inv xs l))
 
 add-count : tie.Need-add-count Inv-loop μ-loop
 add-count c = omega (arith, in-room (c .before .before .before))
@@ -40,7 +40,7 @@ loop-less c = omega (arith, in-room (c .before .before .before))
 loop-again : tie.Need-loop-again Inv-loop μ-loop
 loop-again c =
     let i = c .before .before in λ xs l.
-    rw (c .before .wide .ensures) (showed-more _ _ _ xs l _ _ _ (i .before .loop .inv xs l) (i .loop-test .taken))
+    rw (c .before .job .ensures) (showed-more _ _ _ xs l _ _ _ (i .before .loop .inv xs l) (i .loop-test .taken))
 
 array-write-jobs-2 : tie.Need-array-write-jobs-2 Inv-loop μ-loop
 array-write-jobs-2 c = in-room (c .before)
@@ -59,8 +59,8 @@ shown-spec =
     μ-loop
     loop-holds
     array-write-jobs
-    wide-requires
-    element-copy-out-job
+    job-requires
+    element-copy-out-present
     add-count
     loop-less
     loop-again

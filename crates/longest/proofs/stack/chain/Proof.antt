@@ -4,7 +4,7 @@ use mathlib.Core.Path.{_≡_, sym, subst}
 use mathlib.Core.List.{List}
 use native.Mathlib.Omega.{arith}
 use lib.ListN.{getD, set}
-use Rattle.longest.specs.Longest.{Stretch}
+use Rattle.longest.specs.Longest.{WorkRun}
 use Rattle.longest.specs.Stack.{Runs, Beside, runs}
 use Rattle.longest.proofs.Folding.{Chained, chained-first, chained-next, chained-all, link-small, total-low}
 use Rattle.longest.proofs.stack.chain.Statement.{statement}
@@ -12,7 +12,7 @@ use Rattle.longest.proofs.stack.chain.Tie as tie
 
 abbrev Inv-loop : tie.InvT-loop
 Inv-loop top end totals firsts lasts next₀ total₀ first₀ k₀ next total first k =
-    (rs : List Stretch) (b : Beside rs top end (runs totals firsts lasts next₀)) → Chained rs top end (runs totals firsts lasts next₀) b next total first k
+    (rs : List WorkRun) (b : Beside rs top end (runs totals firsts lasts next₀)) → Chained rs top end (runs totals firsts lasts next₀) b next total first k
 
 abbrev μ-loop : tie.MeasureT-loop
 μ-loop top end totals firsts lasts next₀ total₀ first₀ k₀ next total first k = k
@@ -53,7 +53,7 @@ module _ (c : tie.In-loop Inv-loop μ-loop) where
       omega (arith, total-low rs _ _ lent b _ (c .loop-test .taken) (x .to-end) _ _ _ x)
 
   again : (x : ℕ) → x ≡ getD (start .args .lasts .now) (c .before .loop .k - 1) 0
-      → (rs : List Stretch) (b : Beside rs (start .args .top) (start .args .end) lent)
+      → (rs : List WorkRun) (b : Beside rs (start .args .top) (start .args .end) lent)
       → Chained rs (start .args .top) (start .args .end) lent b
       (set (c .before .loop .next) x (c .before .loop .first))
       (c .before .loop .total + getD (start .args .totals .now) (c .before .loop .k - 1) 0)

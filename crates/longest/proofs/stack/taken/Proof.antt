@@ -30,14 +30,14 @@ opened-at k s g = taken-group _ _ _ _ k (s .args .token) g
 sub-at : tie.Need-sub-at
 sub-at c = leaf-of c .1
 
-mul-hours-of : tie.Need-mul-hours-of
-mul-hours-of c = search needs
+mul-total-of : tie.Need-mul-total-of
+mul-total-of c = search needs
 
-element-copy-out-hours-of : tie.Need-element-copy-out-hours-of
-element-copy-out-hours-of c = omega (arith, leaf-of c .0)
+element-copy-out-total-of : tie.Need-element-copy-out-total-of
+element-copy-out-total-of c = omega (arith, leaf-of c .0)
 
-hours-of-requires : tie.Need-hours-of-requires
-hours-of-requires c κs = search needs
+total-of-requires : tie.Need-total-of-requires
+total-of-requires c κs = search needs
 
 mul-totals : tie.Need-mul-totals
 mul-totals c = search needs
@@ -62,7 +62,7 @@ returns c =
     let t = c .before .before in
     let s = t .before in
     let a = s .args in λ ts us step fits stacked.
-    rw (c .hours-of .ensures)
+    rw (c .total-of .ensures)
     (taken-leaf (hoursOf (a .hours .now)) (hours-most (a .hours .now) (s .pre .0)) (a .top) (lent s) (a .token) (t .if1 .taken) ts us step fits stacked .2)
 
 add-end : tie.Need-add-end
@@ -85,27 +85,27 @@ returns-2 c =
 
 side-requires : tie.Need-side-requires
 side-requires c κs =
-    let t = c .before .before .before .before in
+    let t = c .before .before .before in
     let s = t .before .before in
     let (ts, us, step, fits, stacked) = s .pre .1 in
     let o = opened-at parallel s (t .if2 .left) ts us step fits stacked in
-    (o .children, o .beside)
+    (s .args .next .now, o .children, o .beside)
 
 returns-3 : tie.Need-returns-3
 returns-3 c =
-    let t = c .before .before .before .before .before in
+    let t = c .before .before .before .before in
     let s = t .before .before in λ ts us step fits stacked.
     let o = opened-at parallel s (t .if2 .left) ts us step fits stacked in
-    o .closed _ (c .side .ensures (o .children) (o .beside))
+    o .closed _ (c .side .ensures (s .args .next .now) (o .children) (o .beside))
 
 pub taken-spec : {M : Type 1} → statement M
 taken-spec =
     tie.close
     (tie.spec
     sub-at
-    mul-hours-of
-    element-copy-out-hours-of
-    hours-of-requires
+    mul-total-of
+    element-copy-out-total-of
+    total-of-requires
     mul-totals
     element-write-totals
     cast-firsts
