@@ -8,7 +8,8 @@ use Rattle.longest.proofs.showing.shown.Statement.{statement}
 use Rattle.longest.proofs.showing.shown.Tie as tie
 
 abbrev Inv-loop : tie.InvT-loop
-Inv-loop next first last jobs₀ count₀ present₀ jobs count present = (xs : List ℕ) (l : Linked next first last xs) → Showed next first last xs l jobs count present
+Inv-loop next first last jobs₀ count₀ present₀ jobs count present =
+    (xs : List ℕ) (l : Linked next first last xs) → Showed next first last xs l jobs count present
 
 abbrev μ-loop : tie.MeasureT-loop
 μ-loop next first last jobs₀ count₀ present₀ jobs count present = 128 - count

@@ -10,7 +10,8 @@ use Rattle.longest.proofs.stack.side.Tie as tie
 
 abbrev Inv-loop : tie.InvT-loop
 Inv-loop top end totals firsts lasts total₀ best₀ k₀ total best k =
-    (next : List ℕ) (rs : List WorkRun) (b : Beside rs top end (runs totals firsts lasts next)) → Chosen rs top end (runs totals firsts lasts next) b total best k
+    (next : List ℕ) (rs : List WorkRun) (b : Beside rs top end (runs totals firsts lasts next))
+    → Chosen rs top end (runs totals firsts lasts next) b total best k
 
 abbrev μ-loop : tie.MeasureT-loop
 μ-loop top end totals firsts lasts total₀ best₀ k₀ total best k = k
