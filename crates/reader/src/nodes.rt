@@ -3,9 +3,9 @@ ghost use mathlib.Core.Path.{_≡_};
 ghost use Prim.Native.Nat.{_+_, _*_, _≤_, _<_};
 ghost use lib.ListN.{length, drop};
 ghost use Rattle.record.specs.Bits.{bitsOf};
-ghost use Rattle.record.specs.Layout.{leafBits, recordRoom};
+ghost use Rattle.record.specs.Layout.{recordRoom};
 ghost use Rattle.record.specs.Decode.{fills};
-ghost use Rattle.reader.specs.Fields.{FieldAt, NodeAt};
+ghost use Rattle.reader.specs.Fields.{FieldAt, LeafAt, NodeAt};
 
 // What a node begins with. tag: 0 a leaf, 1 a series group, 2 a parallel group, 3 none: the bits end, or a group has one
 // child. value: the job, or the children minus 1. hours: the job's.
@@ -42,11 +42,12 @@ pub fn field(bytes: &[u8], at: usize, width: usize) -> usize
     (pair(bytes, i) >> (16 - end)) % (1usize << width)
 }
 
-// The number in as many bits from `at` on as a leaf has: four bytes hold them, or the last three. The second pair of the four is read
-// first: with the pair that the three have too ahead of it, the compiler would not load the four at once.
+// The number in as many bits from `at` on as a leaf has: four bytes hold them, or the last three. Where the bits end, that of a group
+// with one child. The second pair of the four is read first: with the pair that the three have too ahead of it, the compiler
+// would not load the four at once.
 fn leaf_at(bytes: &[u8], at: usize) -> usize
-    requires { ⌜ (at + leafBits ≤ 8 * length (now bytes)) × (length (now bytes) ≤ recordRoom) ⌝ }
-    ensures { λ r. ⌜ FieldAt (bitsOf (now (bytes .entry))) at leafBits r ⌝ }
+    requires { ⌜ (at ≤ 8 * recordRoom) × (length (now bytes) ≤ recordRoom) ⌝ }
+    ensures { λ r. ⌜ LeafAt (bitsOf (now (bytes .entry))) at r ⌝ }
 {
     let i = at / 8;
     let end = at % 8 + record::LEAF_BITS;
@@ -54,6 +55,9 @@ fn leaf_at(bytes: &[u8], at: usize) -> usize
         let low = pair(bytes, i + 2);
         let four = pair(bytes, i) * 65536 + low;
         return (four >> (32 - end)) % (1usize << record::LEAF_BITS);
+    }
+    if 8 * bytes.len() < at + record::LEAF_BITS {
+        return 1usize << (record::LEAF_BITS - 1);
     }
     let three = pair(bytes, i) * 256 + wide(bytes[i + 2]);
     (three >> (24 - end)) % (1usize << record::LEAF_BITS)
@@ -64,14 +68,6 @@ pub fn node_at(bytes: &[u8], at: usize) -> Node
     requires { ⌜ (at ≤ 8 * recordRoom) × (length (now bytes) ≤ recordRoom) ⌝ }
     ensures { λ r. ⌜ NodeAt (bitsOf (now (bytes .entry))) at r ⌝ }
 {
-    let end = 8 * bytes.len();
-    if end < at + record::LEAF_BITS {
-        return Node {
-            tag: 3,
-            value: 0,
-            hours: 0,
-        };
-    }
     let x = leaf_at(bytes, at);
     let first = x >> record::HOURS_BITS;
     if first < 128 {
