@@ -1,17 +1,18 @@
--- A field of a few bits in the bytes that hold it.
+-- Fields side by side, and a field in the bytes that hold it.
 use Prim.Native.Nat.{ℕ, zero, suc, _+_, _-_, _*_, _/_, _%_, _^_, _≤_, _<_}
-use mathlib.Core.Path.{_≡_, refl, sym, ap, ap₂, subst, _∙_}
-use mathlib.Core.List.{List, [], _∷_, _++_, append-assoc}
+use mathlib.Core.Path.{_≡_, refl, sym, ap, subst, _∙_}
+use mathlib.Core.List.{List, [], _∷_, _++_}
 use native.Mathlib.Nat.{mod-lt}
 use native.Mathlib.Omega.{arith}
 use lib.ListN.{length, getD, drop}
-use lib.Pow.{pow-pos, split, shl-exact}
+use lib.Arith.{digits-lt}
+use lib.Pow.{pow-pos, pow-add, split, shr-lt, shl-exact}
 use lib.Seq.{drop-cons, drop-drop, drop-append-seam}
 use Rattle.record.specs.Bits.{bits, bitsOf}
 use Rattle.record.proofs.Fields.{length-bits, bits-append}
 use Rattle.record.proofs.Bytes.{length-bitsOf}
 use Rattle.reader.specs.Fields.{At, FieldAt}
-use Rattle.reader.proofs.Positions.{at-of, at-left, at-right}
+use Rattle.reader.proofs.Positions.{at-of, at-left, at-right, at-join}
 
 -- the bits from a byte on
 drop-bytes : (i : ℕ) (bytes : List ℕ) → drop (8 * i) (bitsOf bytes) ≡ bitsOf (drop i bytes)
@@ -33,31 +34,48 @@ byte-at : (bytes : List ℕ) (i : ℕ) → i < length bytes → drop (8 * i) (bi
 unfolding bitsOf
 byte-at bytes i h = drop-bytes i bytes ∙ ap bitsOf (drop-cons bytes i 0 h)
 
--- a number's bits from a on, k of them
-bits-middle : (a k c x : ℕ) → bits (a + k + c) x ≡ (bits a (x / 2 ^ c / 2 ^ k) ++ bits k (x / 2 ^ c % 2 ^ k)) ++ bits c (x % 2 ^ c)
-bits-middle a k c x =
-    let y : ℕ = x / 2 ^ c in
-    ap (bits (a + k + c)) (sym (split x c))
-    ∙ bits-append (a + k) c y (x % 2 ^ c) (mod-lt x (pow-pos c))
-    ∙ ap (λ (l : List ℕ). l ++ bits c (x % 2 ^ c)) (ap (bits (a + k)) (sym (split y k)) ∙ bits-append a k (y / 2 ^ k) (y % 2 ^ k) (mod-lt y (pow-pos k)))
+pub byte-field : (bytes : List ℕ) (i x : ℕ) → i < length bytes → x ≡ getD bytes i 0 → x < 256 → FieldAt (bitsOf bytes) (8 * i) 8 x
+byte-field bytes i x h e l = record {
+  stands = at-of (bits 8 x) _ (omega (arith, length-bitsOf bytes)) (byte-at bytes i h ∙ ap (λ (b : ℕ). bits 8 b ++ bitsOf (drop (suc i) bytes)) (sym e));
+  small = l;
+}
+
+-- a number's bits are those of its high part and those of its low one
+pub halves : (j k x : ℕ) → bits (j + k) x ≡ bits j (x / 2 ^ k) ++ bits k (x % 2 ^ k)
+halves j k x = ap (bits (j + k)) (sym (split x k)) ∙ bits-append j k (x / 2 ^ k) (x % 2 ^ k) (mod-lt x (pow-pos k))
+
+module _ {bs : List ℕ} {at : ℕ} (j k x : ℕ) (f : FieldAt bs at (j + k) x) where
+  parts : At bs at (bits j (x / 2 ^ k) ++ bits k (x % 2 ^ k))
+  parts = subst (At bs at) (halves j k x) (f .stands)
+
+  pub high-part : FieldAt bs at j (x / 2 ^ k)
+  high-part = record { stands = at-left (bits j (x / 2 ^ k)) (bits k (x % 2 ^ k)) parts; small = shr-lt j k (f .small) }
+
+  pub low-part : FieldAt bs (at + j) k (x % 2 ^ k)
+  low-part = record {
+    stands = subst (λ (l : ℕ). At bs (at + l) (bits k (x % 2 ^ k))) (length-bits j (x / 2 ^ k)) (at-right (bits j (x / 2 ^ k)) (bits k (x % 2 ^ k)) parts);
+    small = mod-lt x (pow-pos k);
+  }
+
+-- the number in n bytes and in k bits after them
+pub further : {bs : List ℕ} (i n k x y : ℕ) → FieldAt bs (8 * i) (8 * n) x → FieldAt bs (8 * (i + n)) k y → FieldAt bs (8 * i) (8 * n + k) (x * 2 ^ k + y)
+further {bs} i n k x y f g =
+    let place : 8 * (i + n) ≡ 8 * i + length (bits (8 * n) x) = omega (arith, length-bits (8 * n) x) in
+    record {
+      stands = subst (At bs (8 * i)) (sym (bits-append (8 * n) k x y (g .small)))
+          (at-join (bits (8 * n) x) (bits k y) (f .stands) (subst (λ (p : ℕ). At bs p (bits k y)) place (g .stands)));
+      small = rw (pow-add 2 (8 * n) k) (digits-lt (f .small) (g .small));
+    }
 
 -- a field that lies in the m bits of x, which stand from a byte on
-module _ (bytes : List ℕ) (at k m x : ℕ) (s : At (bitsOf bytes) (8 * (at / 8)) (bits m x)) (l : at % 8 + k ≤ m) where
-  window : FieldAt (bitsOf bytes) at k (x / 2 ^ (m - (at % 8 + k)) % 2 ^ k)
-  window =
-      let a : ℕ = at % 8 in
-      let c : ℕ = m - (at % 8 + k) in
-      let whole : a + k + c ≡ m = omega arith in
-      let y : ℕ = x / 2 ^ c in
-      let front : List ℕ = bits a (y / 2 ^ k) in
-      let here : List ℕ = bits k (y % 2 ^ k) in
-      let parts : At (bitsOf bytes) (8 * (at / 8)) ((front ++ here) ++ bits c (x % 2 ^ c)) =
-      subst (λ (l : List ℕ). At (bitsOf bytes) (8 * (at / 8)) l) (ap (λ (n : ℕ). bits n x) (sym whole) ∙ bits-middle a k c x) s in
-      let place : 8 * (at / 8) + length front ≡ at = omega (arith, length-bits a (y / 2 ^ k)) in
-      record {
-        stands = subst (λ (p : ℕ). At (bitsOf bytes) p here) place (at-right front here (at-left (front ++ here) (bits c (x % 2 ^ c)) parts));
-        small = mod-lt y (pow-pos k);
-      }
+pub window : {bs : List ℕ} (at k m x : ℕ) → FieldAt bs (8 * (at / 8)) m x → at % 8 + k ≤ m → FieldAt bs at k (x / 2 ^ (m - (at % 8 + k)) % 2 ^ k)
+window {bs} at k m x f l =
+    let a : ℕ = at % 8 in
+    let c : ℕ = m - (a + k) in
+    let whole : m ≡ a + k + c = omega arith in
+    let place : 8 * (at / 8) + a ≡ at = omega arith in
+    subst (λ (p : ℕ). FieldAt bs p k (x / 2 ^ c % 2 ^ k)) place
+    (low-part a k (x / 2 ^ c) (high-part (a + k) c x (subst (λ (n : ℕ). FieldAt bs (8 * (at / 8)) n x) whole f)))
 
 shl-one : (k : ℕ) → k ≤ 9 → (1 * 2 ^ k) % 2 ^ 64 ≡ 2 ^ k
 shl-one k h = shl-exact 1 k 64 (omega arith) (omega arith) ∙ omega arith
@@ -65,31 +83,9 @@ shl-one k h = shl-exact 1 k 64 (omega arith) (omega arith) ∙ omega arith
 pub divisor : (k : ℕ) → k ≤ 9 → 0 < (1 * 2 ^ k) % 2 ^ 64
 divisor k h = omega (arith, shl-one k h, pow-pos k)
 
-module _ (bytes : List ℕ) (at k : ℕ) (short : k ≤ 9) (inside : at + k ≤ 8 * length bytes) where
-  start : 8 * (at / 8) ≤ length (bitsOf bytes)
-  start = omega (arith, length-bitsOf bytes)
-
-  pub one-byte : (x : ℕ) → 0 < k → at % 8 + k ≤ 8 → x ≡ getD bytes (at / 8) 0
-      → FieldAt (bitsOf bytes) at k (x / 2 ^ (8 - (at % 8 + k)) % ((1 * 2 ^ k) % 2 ^ 64))
-  one-byte x p l e =
-      subst (λ (d : ℕ). FieldAt (bitsOf bytes) at k (x / 2 ^ (8 - (at % 8 + k)) % d)) (sym (shl-one k short))
-      (window bytes at k 8 x
-      (at-of (bits 8 x) _ start (byte-at bytes (at / 8) (omega arith) ∙ ap (λ (b : ℕ). bits 8 b ++ bitsOf (drop (suc (at / 8)) bytes)) (sym e)))
-      l)
-
-  pub two-bytes : (x y : ℕ) → 8 < at % 8 + k → x ≡ getD bytes (at / 8) 0 → y ≡ getD bytes (at / 8 + 1) 0 → y < 256
-      → FieldAt (bitsOf bytes) at k ((x * 256 + y) / 2 ^ (16 - (at % 8 + k)) % ((1 * 2 ^ k) % 2 ^ 64))
-  unfolding bitsOf
-  two-bytes x y l e f h =
-      let i : ℕ = at / 8 in
-      let next : i + 1 ≡ suc i = omega arith in
-      let rest : List ℕ = bitsOf (drop (suc (suc i)) bytes) in
-      let second : bitsOf (drop (suc i) bytes) ≡ bits 8 y ++ rest =
-      ap bitsOf (drop-cons bytes (suc i) 0 (omega arith)) ∙ ap (λ (b : ℕ). bits 8 b ++ rest) (ap (λ (j : ℕ). getD bytes j 0) (sym next) ∙ sym f) in
-      let these : drop (8 * i) (bitsOf bytes) ≡ bits 16 (x * 2 ^ 8 + y) ++ rest =
-      byte-at bytes i (omega arith)
-      ∙ ap₂ _++_ (ap (bits 8) (sym e)) second
-      ∙ sym (append-assoc (bits 8 x) (bits 8 y) rest)
-      ∙ ap (λ (l : List ℕ). l ++ rest) (sym (bits-append 8 8 x y h)) in
-      subst (λ (d : ℕ). FieldAt (bitsOf bytes) at k ((x * 256 + y) / 2 ^ (16 - (at % 8 + k)) % d)) (sym (shl-one k short))
-      (window bytes at k 16 (x * 256 + y) (at-of (bits 16 (x * 256 + y)) rest start these) (omega arith))
+-- a window by a divisor that is computed
+pub window-shl
+    : {bs : List ℕ} (at k m x : ℕ) → k ≤ 9 → FieldAt bs (8 * (at / 8)) m x → at % 8 + k ≤ m
+    → FieldAt bs at k (x / 2 ^ (m - (at % 8 + k)) % ((1 * 2 ^ k) % 2 ^ 64))
+window-shl {bs} at k m x h f l =
+    subst (λ (d : ℕ). FieldAt bs at k (x / 2 ^ (m - (at % 8 + k)) % d)) (sym (shl-one k h)) (window at k m x f l)

@@ -1,13 +1,14 @@
 -- Bits by position.
 -- For inner contracts alone: who reads the promises of read_record, read_nodes and order_of need not believe it, but specs/Answer.antt. So it may cite
 -- Small, which is the proofs' form of leaves that fit a record.
-use Prim.Native.Nat.{ℕ, suc, _+_, _≤_, _<_, _^_}
+use Prim.Native.Nat.{ℕ, suc, _+_, _-_, _≤_, _<_, _^_}
 use mathlib.Core.Path.{_≡_}
 use mathlib.Core.List.{List, _∷_, _++_}
+use mathlib.Core.Logic.{_⊎_}
 use lib.ListN.{length, drop}
 use Rattle.poset.specs.Tree.{Kind, Tree, leaves}
 use Rattle.record.specs.Bits.{AllBelow, bits}
-use Rattle.record.specs.Layout.{hoursBits, kindBit, treeBits}
+use Rattle.record.specs.Layout.{hoursBits, leafBits, kindBit, treeBits}
 use Rattle.record.proofs.Sizes.{Small}
 use Rattle.reader.specs.declared.nodes.Node.{Node}
 
@@ -20,6 +21,10 @@ pub record At (bs : List ℕ) (at : ℕ) (xs : List ℕ) : Type 0 where
 pub record FieldAt (bs : List ℕ) (at k x : ℕ) : Type 0 where
   pub stands : At bs at (bits k x)
   pub small : x < 2 ^ k
+
+-- x is the number in as many bits there as a leaf has, or the bits end, and it is that of a group with one child
+abbrev pub LeafAt : List ℕ → ℕ → ℕ → Type 0
+LeafAt bs at x = FieldAt bs at leafBits x ⊎ ((length bs < at + leafBits) × (x ≡ 2 ^ (leafBits - 1)))
 
 -- a leaf's bits, by its job and its hours
 abbrev pub leafFields : ℕ → ℕ → List ℕ

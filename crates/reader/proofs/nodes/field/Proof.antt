@@ -1,7 +1,8 @@
 -- `nodes::field` meets its contract: one byte holds the bits, or two do.
-use borrow.Author.Needs.{needs}
+use Prim.Native.Nat.{_/_}
 use native.Mathlib.Omega.{arith}
-use Rattle.reader.proofs.Windows.{divisor, one-byte, two-bytes}
+use borrow.Author.Needs.{needs}
+use Rattle.reader.proofs.Windows.{byte-field, divisor, window-shl}
 use Rattle.reader.proofs.nodes.field.Statement.{statement}
 use Rattle.reader.proofs.nodes.field.Tie as tie
 
@@ -21,34 +22,19 @@ shl-result : tie.Need-shl-result
 shl-result c = search needs
 
 rem-result : tie.Need-rem-result
-rem-result c = let a = c .before .before .before .before .args in divisor (a .width) (c .before .before .before .before .pre .1)
+rem-result c = let s = c .before .before .before .before in divisor (s .args .width) (s .pre .1)
 
 returns : tie.Need-returns
 returns c =
     let s = c .before .before .before .before in
-    one-byte (s .args .bytes .now) (s .args .at) (s .args .width) (s .pre .1) (s .pre .2)
-    (c .wide .result) (s .pre .0) (c .before .before .if1 .taken) (c .wide .ensures .0)
+    let x = c .wide in
+    let i = s .args .at / 8 in
+    window-shl (s .args .at) (s .args .width) 8 (x .result) (s .pre .1)
+    (byte-field (s .args .bytes .now) i (x .result) (omega (arith, s .pre .0, s .pre .2)) (x .ensures .0) (x .ensures .1))
+    (c .before .before .if1 .taken)
 
-shared-slice-read-wide-2 : tie.Need-shared-slice-read-wide-2
-shared-slice-read-wide-2 c = search needs
-
-wide-requires-2 : tie.Need-wide-requires-2
-wide-requires-2 c κs = search needs
-
-mul-pair : tie.Need-mul-pair
-mul-pair c = omega arith
-
-add-wide : tie.Need-add-wide
-add-wide c = search needs
-
-shared-slice-read-wide-3 : tie.Need-shared-slice-read-wide-3
-shared-slice-read-wide-3 c = search needs
-
-wide-requires-3 : tie.Need-wide-requires-3
-wide-requires-3 c κs = search needs
-
-add-pair : tie.Need-add-pair
-add-pair c = omega arith
+pair-requires : tie.Need-pair-requires
+pair-requires c κs = search needs
 
 sub-result : tie.Need-sub-result
 sub-result c = search needs
@@ -60,14 +46,12 @@ shl-result-2 : tie.Need-shl-result-2
 shl-result-2 c = search needs
 
 rem-result-2 : tie.Need-rem-result-2
-rem-result-2 c = let s = c .before .before .before .before .before .before in divisor (s .args .width) (s .pre .1)
+rem-result-2 c = let s = c .before .before .before in divisor (s .args .width) (s .pre .1)
 
 returns-2 : tie.Need-returns-2
 returns-2 c =
-    let s = c .before .before .before .before .before .before in
-    two-bytes (s .args .bytes .now) (s .args .at) (s .args .width) (s .pre .1) (s .pre .2)
-    (c .before .before .wide2 .result) (c .wide3 .result) (c .before .before .before .before .if1 .left)
-    (c .before .before .wide2 .ensures .0) (c .wide3 .ensures .0) (c .wide3 .ensures .1)
+    let s = c .before .before .before in
+    window-shl (s .args .at) (s .args .width) 16 (c .pair .result) (s .pre .1) (c .pair .ensures) (omega (arith, s .pre .1))
 
 pub field-spec : {M : Type 1} → statement M
 field-spec =
@@ -80,13 +64,7 @@ field-spec =
     shl-result
     rem-result
     returns
-    shared-slice-read-wide-2
-    wide-requires-2
-    mul-pair
-    add-wide
-    shared-slice-read-wide-3
-    wide-requires-3
-    add-pair
+    pair-requires
     sub-result
     shr-result-2
     shl-result-2
