@@ -32,13 +32,8 @@ static void spread(uint64_t *restrict col, uint64_t *restrict other, int at, uin
         col[i] |= a & m; other[i] |= b & m;
     }
 }
-static void closed(const uint16_t *arcs, size_t numbers, int n, set after[128]) {
+static void passes(set after[128], int n) {
     uint64_t lo[128], hi[128];
-    memset(after, 0, 128 * sizeof(set));
-    // one arc of each quarter of the list at a time: arcs side by side are often of one row, and the second would wait for the first
-    size_t quarter = numbers / 8;
-    for (size_t i = 0; i < numbers / 2 - 3 * quarter; i++)
-        for (size_t k = 2 * i, j = 0; j < 4; j++, k += 2 * quarter) put(&after[arcs[k]], arcs[k + 1]);
     set reached = {{0, 0}};
     for (int i = 0; i < n; i++) { lo[i] = after[i].w[0]; hi[i] = after[i].w[1]; reached = or_(reached, after[i]); }
     for (int k = 0; k < n; k++) {
@@ -46,6 +41,35 @@ static void closed(const uint16_t *arcs, size_t numbers, int n, set after[128]) 
         if (k < 64) spread(lo, hi, k, lo[k], hi[k], n); else spread(hi, lo, k - 64, hi[k], lo[k], n);
     }
     for (int i = 0; i < n; i++) after[i] = (set){{lo[i], hi[i]}};
+}
+// from the last jobs towards the first, as bench/closure has it; where there is a cycle the passes go on over the rows as they are
+static void closed(const uint16_t *arcs, size_t numbers, int n, set after[128]) {
+    uint8_t stack[128];
+    set left = {{0, 0}}, met = {{0, 0}};
+    int depth = 0;
+    memset(after, 0, 128 * sizeof(set));
+    // one arc of each quarter of the list at a time: arcs side by side are often of one row, and the second would wait for the first
+    size_t quarter = numbers / 8;
+    for (size_t i = 0; i < numbers / 2 - 3 * quarter; i++)
+        for (size_t k = 2 * i, j = 0; j < 4; j++, k += 2 * quarter) put(&after[arcs[k]], arcs[k + 1]);
+    for (int i = 0; i < n && i < 64; i++) left.w[0] |= (uint64_t)!none(after[i]) << i;
+    for (int i = 64; i < n; i++) left.w[1] |= (uint64_t)!none(after[i]) << (i - 64);
+    while (!none(left)) for (int u = high(left);;) {
+        set row = after[u], next = and_(row, left), one = u < 64 ? (set){{1ull << u, 0}} : (set){{0, 1ull << (u - 64)}};
+        if (none(next)) {
+            for (uint64_t x = after[u].w[0]; x; x &= x - 1) row = or_(row, after[__builtin_ctzll(x)]);
+            for (uint64_t x = after[u].w[1]; x; x &= x - 1) row = or_(row, after[64 + __builtin_ctzll(x)]);
+            after[u] = row;
+            left = but(left, one);
+            if (!depth) break;
+            u = stack[--depth];
+        } else {
+            met = or_(met, one);
+            if (!none(and_(next, met))) { passes(after, n); return; }
+            stack[depth++] = u;
+            u = high(next);
+        }
+    }
 }
 __attribute__((noinline)) static size_t c_reduce(const uint16_t *arcs, size_t numbers, uint16_t n, uint8_t *area, size_t room) {
     set after[128], covers[128], busy = {{0, 0}};

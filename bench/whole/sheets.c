@@ -131,6 +131,8 @@ int main(int argc, char **argv) {
     for (int u = 0; u < 60; u += 2) { add(u, u + 1); for (int v = 60; v < 120; v++) add(u + 1, v); }
     last_four(); sheet("crossed-late", 128);
     line(4095); add(127, 0); mix(); sheet("circle", 128);
+    start(); add(0, 1); add(1, 0); for (int u = 0; u < 64; u++) for (int v = u ? 64 : 66; v < 128; v++) add(u, v);
+    sheet("circle-last", 128);
     bipartite(); sheet_ending("broken-last", 128, " ");
     if (!former) { over = 127; start(); sheet("hours-over", 128); over = -1; }
     if (ends == CRLF) { ends = EITHER; bipartite(); sheet("either", 128); }

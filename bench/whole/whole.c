@@ -110,8 +110,8 @@ static inline void spread(uint64_t *restrict col, uint64_t *restrict other, unsi
         other[i] |= b & mask;
     }
 }
-// The transitive closure (Warshall) on two columns of words, several rows at a time; not through a job that is before none or that none is before.
-static void close(set *after, unsigned n) {
+// Warshall's closure on two columns of words, several rows at a time; not through a job that is before none or that none is before.
+static void passes(set *after, unsigned n) {
     uint64_t lo[128], hi[128];
     set reached = {{0, 0}};
     for (unsigned i = 0; i < n; i++) {
@@ -124,6 +124,37 @@ static void close(set *after, unsigned n) {
         else spread(hi, lo, k - 64, hi[k], lo[k], n);
     }
     for (unsigned i = 0; i < n; i++) after[i] = (set){{lo[i], hi[i]}};
+}
+static inline unsigned highest(uint64_t lo, uint64_t hi) { return hi ? 127 - __builtin_clzll(hi) : 63 - __builtin_clzll(lo); }
+// The transitive closure from the last jobs towards the first: a search over a stack of jobs, from the largest job down. A job's row is made once all
+// that its orders lead to are finished, of their rows. left: the jobs before others that are not finished; met: those that have been on the stack.
+// Where an order leads to a job on the stack the passes are made, over the rows as they are.
+static void close(set *after, unsigned n) {
+    uint8_t stack[128];
+    uint64_t left_lo = 0, left_hi = 0, met_lo = 0, met_hi = 0;
+    unsigned depth = 0, few = n < 64 ? n : 64;
+    for (unsigned i = 0; i < few; i++) left_lo |= (uint64_t)((after[i].w[0] | after[i].w[1]) != 0) << i;
+    for (unsigned i = 64; i < n; i++) left_hi |= (uint64_t)((after[i].w[0] | after[i].w[1]) != 0) << (i - 64);
+    while (left_lo | left_hi) for (unsigned u = highest(left_lo, left_hi);;) {
+        uint64_t lo = after[u].w[0], hi = after[u].w[1], next_lo = lo & left_lo, next_hi = hi & left_hi, bit = 1ull << (u & 63);
+        if (!(next_lo | next_hi)) {
+            set row = after[u];
+            for (; lo; lo &= lo - 1) row = join(row, after[__builtin_ctzll(lo)]);
+            for (; hi; hi &= hi - 1) row = join(row, after[64 + __builtin_ctzll(hi)]);
+            after[u] = row;
+            if (u < 64) left_lo ^= bit; else left_hi ^= bit;
+            if (!depth) break;
+            u = stack[--depth];
+        } else {
+            if (u < 64) met_lo |= bit; else met_hi |= bit;
+            if ((next_lo & met_lo) | (next_hi & met_hi)) {
+                passes(after, n);
+                return;
+            }
+            stack[depth++] = u;
+            u = highest(next_lo, next_hi);
+        }
+    }
 }
 
 // Hacker's Delight, 7-3: a square of 64 by 64 bits turned in place.

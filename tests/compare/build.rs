@@ -1,4 +1,5 @@
-//! Links libdesk.a and libdesk_tests.a from the directory ORDERSHEET_LIB_DIR, an absolute path.
+//! Links libdesk.a, libdesk_tests.a and librelation_bench.a from the directory
+//! ORDERSHEET_LIB_DIR, an absolute path.
 
 fn main() {
     println!("cargo:rerun-if-env-changed=ORDERSHEET_LIB_DIR");
@@ -9,7 +10,7 @@ fn main() {
         panic!("set ORDERSHEET_LIB_DIR to the directory of the archives, or use --features mock");
     };
     println!("cargo:rustc-link-search=native={directory}");
-    for library in ["desk", "desk_tests"] {
+    for library in ["desk", "desk_tests", "relation_bench"] {
         println!("cargo:rerun-if-changed={directory}/lib{library}.a");
         println!("cargo:rustc-link-lib=static={library}");
     }

@@ -86,7 +86,8 @@ pub fn of_arcs(list: &[u16], n: usize, hours: &[u16], bytes: &mut [u8], area: &m
     ensures { λ r. ⌜ Gives (ordered (rooms (now (bytes .entry)) (now (area .entry))) n (now (hours .entry)) (before n (pairs (now (list .entry)))))
         (now (bytes .entry)) (now (area .entry)) r (now (bytes .exit)) (now (area .exit)) ⌝ }
 {
-    let after = order::closure(arcs::table_of(list), n);
+    let mut joins = 0;
+    let after = closure::transitive_closure(arcs::table_of(list), n, &mut joins);
     let circle = order::first_on_cycle(after, n);
     match circle {
         Found::At(u) => refused(Verdict::Cycle(u)),

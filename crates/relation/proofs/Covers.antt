@@ -1,23 +1,24 @@
 -- The jobs after a job that are after another such job: a sweep over the first, from both ends, that leaves out what it has found.
-use Prim.Native.Nat.{ℕ, _+_, _≤_, _<_, zero-le, suc-le-suc}
+use Prim.Native.Nat.{ℕ, _+_, _-_, _*_, _%_, _^_, _≤_, _<_, min, suc-le-suc}
 use native.Mathlib.Decide.{ℕ-discrete}
 use native.Mathlib.Omega.{arith}
-use native.Mathlib.Nat.{lt-of-lt-of-le}
-use mathlib.Core.Path.{_≡_, refl, sym, ap, ap₂, _∙_}
-use mathlib.Core.List.{List, []}
+use native.Mathlib.Nat.{lt-of-lt-of-le, zero-add}
+use mathlib.Core.Path.{_≡_, sym, ap, ap₂, _∙_}
+use mathlib.Core.List.{List, [], _∷_}
 use mathlib.Core.Bool.{Bool, true, false, _&&_, _||_, not}
 use mathlib.Core.Logic.{_⊎_, inl, inr, ⊎-elim}
 use lib.Dec.{eqb, ltb}
-use lib.ListN.{length, getD, replicate}
-use borrow.Author.Tests.{lt-ltb, le-ltb, eq-eqb, ne-eqb}
+use lib.ListN.{length, getD}
+use lib.Bits.{bitAnd, bitOr}
+use borrow.Author.Tests.{lt-ltb, le-ltb, ltb-true, eq-eqb, ne-eqb}
 use Rattle.poset.specs.Lists.{exists, below}
 use Rattle.poset.specs.Order.{Rel, Strict, covers}
 use Rattle.poset.proofs.Laws.{decided, clash, false-unless, same-test, and-left, and-right, and-intro, or-cases, or-left, or-right, not-false}
 use Rattle.poset.proofs.Laws.{any-hit, any-found, any-miss, below-mem, mem-below}
-use Rattle.relation.specs.Table.{has, holds, members, Least, Inside}
+use Rattle.relation.specs.Table.{bit, has, holds, members, Least, Inside}
 use Rattle.relation.proofs.Lists.{and-true, and-false, or-false, keep-fewer}
-use Rattle.relation.proofs.Sets.{ltb-agree, without-least, members-step}
-use Rattle.relation.proofs.Tables.{has-blank}
+use Rattle.relation.proofs.Words.{bit-zero, bit-power, one-shifted}
+use Rattle.relation.proofs.Sets.{ltb-agree, row-of, bit-masked, without-least, members-step}
 
 module _ (n : ℕ) (r : Rel) (u : ℕ) where
   -- some job is after u and before v
@@ -126,31 +127,75 @@ swept-less rest others gone rest′ w least without left =
     rw (members-step rest others w least without)
     (suc-le-suc (keep-fewer (has rest′) (has others) (λ v e. and-left _ _ (sym (left v) ∙ e)) (below 128)))
 
--- a set made job by job, which has the jobs below i that pass a test
-pub record Chosen (p : ℕ → Bool) (s : List ℕ) (n i : ℕ) : Type 0 where
-  pub within : i ≤ n
-  pub done : (v : ℕ) → has s v ≡ (ltb v i && p v)
+-- a word made bit by bit: bit i is job start + i, and has the jobs below u that pass a test
+pub record Chosen (p : ℕ → Bool) (start end w u : ℕ) : Type 0 where
+  pub from : start ≤ u
+  pub within : u ≤ end
+  pub done : (i : ℕ) → i < 64 → bit w i ≡ (ltb (start + i) u && p (start + i))
 
-module _ (p : ℕ → Bool) (n : ℕ) where
-  pub chosen-none : Chosen p (replicate 2 0) n 0
-  chosen-none = record { within = zero-le; done = λ v. has-blank v ∙ sym (ap (λ b. b && p v) (le-ltb v 0 (omega arith))) }
+module _ (p : ℕ → Bool) (start end : ℕ) where
+  pub chosen-none : start ≤ end → Chosen p start end 0 start
+  chosen-none l =
+      record {
+        from = omega arith;
+        within = l;
+        done = λ i _. bit-zero i ∙ sym (ap (λ b. b && p (start + i)) (le-ltb (start + i) start (omega arith)));
+      }
 
-  module _ (s : List ℕ) (i : ℕ) (c : Chosen p s n i) where
+  module _ (w u : ℕ) (c : Chosen p start end w u) where
     pub chosen-next
-        : i < n → (s′ one : List ℕ) (test : Bool) → ((v : ℕ) → has s′ v ≡ (has s v || (test && has one v)))
-        → test ≡ p i → ((v : ℕ) → has one v ≡ eqb i v) → Chosen p s′ n (i + 1)
-    chosen-next l s′ one test h e o =
-        record { within = omega arith; done = λ v. h v ∙ ap₂ (λ a b. a || b) (c .done v) (ap₂ (λ a b. a && b) e (o v)) ∙ by v (ℕ-discrete v i) }
+        : u < end → end ≤ start + 64 → (test : Bool) (m : ℕ) → test ≡ p u → ((i : ℕ) → i < 64 → bit m i ≡ test)
+        → Chosen p start end (bitOr w (bitAnd (1 * 2 ^ (u - start) % 2 ^ 64) m)) (u + 1)
+    chosen-next l h test m e mask =
+        record {
+          from = omega arith;
+          within = omega arith;
+          done =
+              λ i k.
+              bit-masked test m mask w (1 * 2 ^ (u - start) % 2 ^ 64) i k
+              ∙ ap₂ (λ a b. a || b) (c .done i k) (ap₂ (λ a b. a && b) e (one i)) ∙ by i (ℕ-discrete (start + i) u);
+        }
       where
-        by : (v : ℕ) → Dec (v ≡ i) → ((ltb v i && p v) || (p i && eqb i v)) ≡ (ltb v (i + 1) && p v)
-        by v (yes d) = rw (d, le-ltb i i (omega arith), lt-ltb i (i + 1) (omega arith), eq-eqb i i refl) (and-true (p i))
-        by v (no d) =
-            rw (ne-eqb i v (λ g. d (sym g)), and-false (p i), or-false (ltb v i && p v))
-            (ap (λ b. b && p v) (ltb-agree v i v (i + 1) (λ m. omega arith) (λ m. omega arith)))
+        one : (i : ℕ) → bit (1 * 2 ^ (u - start) % 2 ^ 64) i ≡ eqb (u - start) i
+        one i = ap (λ x. bit x i) (one-shifted (u - start) (omega arith)) ∙ bit-power (u - start) i
 
-    pub chosen-end : n ≤ i → ((v : ℕ) → p v ≡ true → v < n) → (v : ℕ) → has s v ≡ p v
-    chosen-end l inside v =
-        c .done v ∙ same-test _ _ (λ e. and-right (ltb v i) _ e) (λ e. and-intro _ _ (lt-ltb v i (lt-of-lt-of-le (inside v e) l)) e)
+        by
+            : (i : ℕ) → Dec (start + i ≡ u)
+            → ((ltb (start + i) u && p (start + i)) || (p u && eqb (u - start) i)) ≡ (ltb (start + i) (u + 1) && p (start + i))
+        by i (yes d) =
+            rw (d, le-ltb u u (omega arith), lt-ltb u (u + 1) (omega arith), eq-eqb (u - start) i (omega arith)) (and-true (p u))
+        by i (no d) =
+            rw (ne-eqb (u - start) i (λ g. d (omega arith)), and-false (p u), or-false (ltb (start + i) u && p (start + i)))
+            (ap (λ b. b && p (start + i)) (ltb-agree (start + i) u (start + i) (u + 1) (λ k. omega arith) (λ k. omega arith)))
+
+    pub chosen-end : end ≤ u → (i : ℕ) → i < 64 → bit w i ≡ (ltb (start + i) end && p (start + i))
+    chosen-end l i k =
+        let e : u ≡ end = omega arith in
+        c .done i k ∙ ap (λ x. ltb (start + i) x && p (start + i)) e
+
+-- the row of two such words, where only jobs below n pass the test
+module _ (p : ℕ → Bool) (n : ℕ) (inside : (v : ℕ) → p v ≡ true → v < n) where
+  pub chosen-row
+      : n ≤ 128 → (half x y : ℕ) → half ≡ min n 64 → ((i : ℕ) → i < 64 → bit x i ≡ (ltb (0 + i) half && p (0 + i)))
+      → ((i : ℕ) → i < 64 → bit y i ≡ (ltb (half + i) n && p (half + i))) → (v : ℕ) → has (x ∷ y ∷ []) v ≡ p v
+  chosen-row l half x y e first second =
+      row-of x y p
+      (λ i k.
+      first i k ∙ ap (λ j. ltb j half && p j) (zero-add i)
+      ∙ same-test _ _ (and-right (ltb i half) (p i)) (λ t. and-intro _ _ (lt-ltb i half (omega (arith, inside i t))) t))
+      (λ i k. second i k ∙ same-test _ _ (forth i) (λ t. back i (inside (64 + i) t) t))
+      (λ v k. false-unless _ λ t. omega (arith, inside v t))
+    where
+      forth : (i : ℕ) → (ltb (half + i) n && p (half + i)) ≡ true → p (64 + i) ≡ true
+      forth i t =
+          let m = ltb-true (half + i) n (and-left _ (p (half + i)) t) in
+          let d : half ≡ 64 = omega arith in
+          ap (λ h. p (h + i)) (sym d) ∙ and-right (ltb (half + i) n) _ t
+
+      back : (i : ℕ) → 64 + i < n → p (64 + i) ≡ true → (ltb (half + i) n && p (half + i)) ≡ true
+      back i m t =
+          let d : half ≡ 64 = omega arith in
+          rw d (and-intro _ _ (lt-ltb (64 + i) n m) t)
 
 -- the rows of the reduction
 module _ (t : List (List ℕ)) (n : ℕ) where

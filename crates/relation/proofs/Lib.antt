@@ -3,8 +3,6 @@ pub mod Words
 pub mod Sets
 pub mod Tables
 pub mod Flat
-pub mod Columns
-pub mod Warshall
 pub mod Covers
 pub mod Listing
 pub mod Chain

@@ -13,7 +13,7 @@ use Rattle.relation.specs.Table.{has, holds, members, Least, Inside}
 use Rattle.poset.specs.Areas.{overlay, arcBytes}
 use Rattle.poset.proofs.Areas.{bytes-append, bytes-length}
 use Rattle.relation.proofs.Lists.{range-start, range-step, range-end}
-use Rattle.relation.proofs.Sets.{members-step, members-end, members-below, members-some, members-low, members-halves}
+use Rattle.relation.proofs.Sets.{low-count, halves-count, members-step, members-end, members-below, members-some, members-halves}
 
 -- the pairs from u to the jobs of a row
 abbrev pub rowPairs : ℕ → List ℕ → List Arc
@@ -174,21 +174,18 @@ module _ (u at : ℕ) (row before : List ℕ) where
 -- a row that is written one half after the other
 module _ (u : ℕ) (row low : List ℕ) (l : (v : ℕ) → has low v ≡ (has row v && ltb v 64)) (at : ℕ) (before : List ℕ) where
   pub halves-fit : at + 2 * length (members row) ≤ length before → at + 2 * length (members low) ≤ length before
-  halves-fit m = omega (arith, ap length (members-low row low l) ∙ length-append (members low) (keep (has row) (upFrom 64 64)))
+  halves-fit m = omega (arith, low-count row low l)
 
   module _ (high : List ℕ) (h : (v : ℕ) → has high v ≡ (has row v && not (ltb v 64))) where
-    halves-count : length (members row) ≡ length (members low) + length (members high)
-    halves-count = ap length (members-halves row low l high h) ∙ length-append (members low) (members high)
-
     module _ (area : List ℕ) (next : ℕ) (p : next ≡ at + 2 * length (members low)) (q : area ≡ sets before at (arcBytes (rowPairs u low))) where
       pub halves-fit-later : at + 2 * length (members row) ≤ length before → next + 2 * length (members high) ≤ length area
-      halves-fit-later m = omega (arith, halves-count, ap length q ∙ length-sets before at (arcBytes (rowPairs u low)))
+      halves-fit-later m = omega (arith, halves-count row low l high h, ap length q ∙ length-sets before at (arcBytes (rowPairs u low)))
 
       pub halves-end
           : (area′ : List ℕ) (end : ℕ) → end ≡ next + 2 * length (members high) → area′ ≡ sets area next (arcBytes (rowPairs u high))
           → (end ≡ at + 2 * length (members row)) × (area′ ≡ sets before at (arcBytes (rowPairs u row)))
       halves-end area′ end d e = (
-        omega (arith, halves-count),
+        omega (arith, halves-count row low l high h),
         e ∙ ap₂ (λ a k. sets a k (arcBytes (rowPairs u high))) q place
             ∙ sym (sets-append before at (arcBytes (rowPairs u low)) (arcBytes (rowPairs u high)))
             ∙ ap (sets before at) (sym (bytes-append (rowPairs u low) (rowPairs u high)) ∙ ap arcBytes (sym pairs)),

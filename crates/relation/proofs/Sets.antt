@@ -194,6 +194,9 @@ module _ (s low : List ℕ) (l : (v : ℕ) → has low v ≡ (has s v && ltb v 6
           (λ v m. l v ∙ ap (λ (b : Bool). has s v && b) (le-ltb v 64 (mem-upFrom 64 64 m .0)) ∙ and-false (has s v)))
           ∙ append-nil _
 
+  pub low-count : length (members low) ≤ length (members s)
+  low-count = omega (arith, ap length members-low, length-append (members low) (keep (has s) (upFrom 64 64)))
+
   module _ (high : List ℕ) (h : (v : ℕ) → has high v ≡ (has s v && not (ltb v 64))) where
     pub members-halves : members s ≡ members low ++ members high
     members-halves = members-low ∙ ap (λ zs. members low ++ zs) (sym highs)
@@ -206,6 +209,9 @@ module _ (s low : List ℕ) (l : (v : ℕ) → has low v ≡ (has s v && ltb v 6
             (λ v m. h v ∙ ap (λ (b : Bool). has s v && not b) (lt-ltb v 64 (mem-below 64 m)) ∙ and-false (has s v)))
             (keep-agree (has high) (has s) (upFrom 64 64)
             (λ v m. h v ∙ ap (λ (b : Bool). has s v && not b) (le-ltb v 64 (mem-upFrom 64 64 m .0)) ∙ and-true (has s v)))
+
+    pub halves-count : length (members s) ≡ length (members low) + length (members high)
+    halves-count = ap length members-halves ∙ length-append (members low) (members high)
 
 -- what code knows of a row
 pub record Row (s : List ℕ) : Type 0 where

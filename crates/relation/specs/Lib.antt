@@ -1,5 +1,4 @@
 -- Relations on jobs as tables of bits, and lists of arcs as flat numbers.
 pub mod Table
-pub mod Columns
 pub mod Arcs
 pub mod Exchange

@@ -1,4 +1,4 @@
-//! Relations on at most 128 jobs as tables of bits: from arcs to the closure, its searches and its reduction.
+//! Relations on at most 128 jobs as tables of bits: a table from arcs, and of an order what is looked for in it and its reduction.
 pub mod arcs;
 pub mod order;
 pub mod reduction;

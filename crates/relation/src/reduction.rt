@@ -4,25 +4,34 @@ ghost use Prim.Native.Nat.{ℕ, _+_, _*_, _<_, _≤_};
 ghost use mathlib.Core.Path.{_≡_};
 ghost use mathlib.Core.Bool.{_&&_};
 ghost use mathlib.Core.List.{map};
+ghost use lib.Dec.{ltb};
 ghost use lib.ListN.{length};
 ghost use lib.Seq.{sets};
 ghost use Rattle.poset.specs.Lists.{exists, below};
 ghost use Rattle.poset.specs.Order.{Strict, covers, pairsOf};
-ghost use Rattle.relation.specs.Table.{has, holds, members, Inside};
+ghost use Rattle.relation.specs.Table.{bit, has, holds, members, Inside};
 ghost use Rattle.poset.specs.Areas.{overlay, arcBytes};
 
+// The jobs from start on, below end, whose row is not empty, as a word: job start + i is bit i.
+fn inhabited_rows(t: &[[u64; 2]; 128], start: usize, end: usize) -> u64
+    requires { ⌜ (start ≤ end) × (end ≤ start + 64) × (end ≤ 128) ⌝ }
+    ensures { λ r. ⌜ ((i : ℕ) → i < 64 → bit r i ≡ (ltb (start + i) end && exists (holds (now (t .entry)) (start + i)) (below 128))) ⌝ }
+{
+    let mut jobs = 0;
+    for u in start..end {
+        jobs = jobs | (1 << (u - start)) & set::mask(set::inhabited(t[u]));
+    }
+    jobs
+}
+
 // The domain of a relation: the jobs whose row is not empty.
-fn domain(t: &[[u64; 2]; 128], n: usize) -> [u64; 2]
+pub fn domain(t: &[[u64; 2]; 128], n: usize) -> [u64; 2]
     requires { ⌜ n ≤ 128 ⌝ }
     requires { ⌜ Inside n (now t) ⌝ }
     ensures { λ r. ⌜ ((w : ℕ) → has r w ≡ exists (holds (now (t .entry)) w) (below 128)) ⌝ }
 {
-    let mut jobs = [0u64; 2];
-    for w in 0..n {
-        let more = set::union_if(set::inhabited(t[w]), jobs, set::only(w));
-        jobs = more;
-    }
-    jobs
+    let half = if n < 64 { n } else { 64 };
+    [inhabited_rows(t, 0, half), inhabited_rows(t, half, n)]
 }
 
 // The jobs that are after some job after u. Nothing is added by a job outside the domain, nor by one that is found already.

@@ -28,14 +28,6 @@ pub fn mask(test: bool) -> u64
     if test { 0xffff_ffff_ffff_ffff } else { 0 }
 }
 
-// The union where the test holds, and the first set where not.
-pub fn union_if(test: bool, a: [u64; 2], b: [u64; 2]) -> [u64; 2]
-    ensures { λ r. ⌜ ((v : ℕ) → has r v ≡ (has a v || (test && has b v))) ⌝ }
-{
-    let m = mask(test);
-    [a[0] | b[0] & m, a[1] | b[1] & m]
-}
-
 pub fn intersection(a: [u64; 2], b: [u64; 2]) -> [u64; 2]
     ensures { λ r. ⌜ ((v : ℕ) → has r v ≡ (has a v && has b v)) ⌝ }
 {

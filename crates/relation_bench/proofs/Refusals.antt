@@ -8,14 +8,15 @@ use mathlib.Core.Option.{Option, none, some}
 use lib.Dec.{leb}
 use lib.ListN.{length}
 use borrow.Author.Tests.{leb-true, le-leb, lt-leb}
-use Rattle.poset.specs.Order.{Arc, Within, Strict, before, covers, pairsOf, reduction, firstN}
+use Rattle.poset.specs.Order.{Arc, Within, Strict, arc, before, covers, pairsOf, reduction, firstN}
 use Rattle.poset.specs.Areas.{overlay, arcBytes}
 use Rattle.poset.proofs.Laws.{clash, and-left, and-right}
 use Rattle.poset.proofs.Closure.{before-is-strict}
-use Rattle.relation.specs.Table.{holds}
+use Rattle.relation.specs.Table.{holds, Inside}
 use Rattle.relation.specs.Arcs.{place, outside}
-use Rattle.relation.proofs.Chain.{outside-none}
-use Rattle.relation_bench.specs.Steps.{nothing, fits, acyclic, reducedArcs, packed, packedN}
+use Rattle.relation.proofs.Chain.{outside-none, table-arcs, table-inside}
+use Rattle.closure.specs.Joins.{passJoins, joinCount}
+use Rattle.relation_bench.specs.Steps.{nothing, fits, acyclic, joinsOf, passJoinsOf, reducedArcs, packed, packedN}
 
 nothing-none : (o : Option ℕ) → nothing o ≡ true → o ≡ none
 unfolding nothing
@@ -45,6 +46,27 @@ module _ (n : ℕ) (arcs : List Arc) where
   pub packed-fit : fits n arcs ≡ true → packed (firstN n (before n arcs)) ≡ packedN n arcs
   unfolding packedN
   packed-fit f = rw f
+
+  pub joins-unfit : fits n arcs ≡ false → 0 ≡ joinsOf n arcs
+  unfolding joinsOf
+  joins-unfit f = rw (joinsOf, f)
+
+  pub passes-unfit : fits n arcs ≡ false → 0 ≡ passJoinsOf n arcs
+  unfolding passJoinsOf
+  passes-unfit f = rw (passJoinsOf, f)
+
+  -- the table of arcs that fit
+  module _ (f : fits n arcs ≡ true) (t : List (List ℕ)) (table : (u v : ℕ) → holds t u v ≡ arc arcs u v) where
+    pub fits-inside : (n ≤ 128) × Inside n t
+    fits-inside = let w = fits-within f in (w .0, table-inside n arcs t table (w .1))
+
+    pub joins-fit : joinCount n (holds t) ≡ joinsOf n arcs
+    unfolding joinsOf
+    joins-fit = ap (joinCount n) (table-arcs n arcs t table) ∙ rw (joinsOf, f)
+
+    pub passes-fit : passJoins n (holds t) ≡ passJoinsOf n arcs
+    unfolding passJoinsOf
+    passes-fit = ap (passJoins n) (table-arcs n arcs t table) ∙ rw (passJoinsOf, f)
 
   -- the pairs of a reduced table
   pub covers-reduction

@@ -1,4 +1,5 @@
-//! The steps of crate `relation`, called from C by bench/relation. Arcs that do not fit are refused.
+//! The steps of crates `closure` and `relation`, called from C by bench/closure, bench/relation and tests/compare. Arcs that do not fit are refused.
+use closure::passes;
 use relation::Found;
 use relation::FoundFour;
 use relation::arcs;
@@ -12,7 +13,7 @@ ghost use Rattle.poset.specs.Order.{Within, before, firstN};
 ghost use Rattle.poset.specs.Areas.{overlay, arcBytes};
 ghost use Rattle.relation.specs.Table.{holds, Inside};
 ghost use Rattle.relation.specs.Arcs.{pairs};
-ghost use Rattle.relation_bench.specs.Steps.{fits, acyclic, reducedArcs, packed, packedN};
+ghost use Rattle.relation_bench.specs.Steps.{fits, acyclic, joinsOf, passJoinsOf, reducedArcs, packed, packedN};
 
 // Whether there are at most 128 jobs and the arcs name them alone.
 pub fn fits(arcs: &[u16], n: u16) -> bool
@@ -32,7 +33,8 @@ pub fn closed(arcs: &[u16], n: usize) -> [[u64; 2]; 128]
     ensures { λ r. ⌜ holds r ≡ before n (pairs (now (arcs .entry))) ⌝ }
     ensures { λ r. ⌜ Inside n r ⌝ }
 {
-    order::closure(arcs::table_of(arcs), n)
+    let mut joins = 0;
+    closure::transitive_closure(arcs::table_of(arcs), n, &mut joins)
 }
 
 // Whether no job is before itself.
@@ -45,6 +47,40 @@ pub fn acyclic(after: [[u64; 2]; 128], n: usize) -> bool
         Found::At(_) => false,
         Found::Nothing => true,
     }
+}
+
+// The closure, made once and as many times again, and how many joins it takes; 0 where the arcs do not fit.
+#[no_mangle]
+pub extern "C" fn bench_joins(arcs: &[u16], n: u16, again: u16) -> usize
+    ensures { λ r. ⌜ r ≡ joinsOf n (pairs (now (arcs .entry))) ⌝ }
+{
+    if !fits(arcs, n) {
+        return 0;
+    }
+    let table = arcs::table_of(arcs);
+    let mut joins = 0;
+    closure::transitive_closure(table, n as usize, &mut joins);
+    for _ in 0..again {
+        closure::transitive_closure(table, n as usize, &mut joins);
+    }
+    joins
+}
+
+// The same by Warshall's passes, cycle or not.
+#[no_mangle]
+pub extern "C" fn bench_passes(arcs: &[u16], n: u16, again: u16) -> usize
+    ensures { λ r. ⌜ r ≡ passJoinsOf n (pairs (now (arcs .entry))) ⌝ }
+{
+    if !fits(arcs, n) {
+        return 0;
+    }
+    let table = arcs::table_of(arcs);
+    let mut joins = 0;
+    passes::passed(&table, n as usize, &mut joins);
+    for _ in 0..again {
+        passes::passed(&table, n as usize, &mut joins);
+    }
+    joins
 }
 
 // Closure and reduction: the reduced arcs as bytes in the area, and how many there are.

@@ -1,8 +1,9 @@
 //! One input held against `second`, and the count of all of them.
 
 use crate::ffi::{self, Areas, Run};
-use crate::generate::damages;
+use crate::generate::{damages, list};
 use crate::lent::Lent;
+use second::joins::Joins;
 use second::{packed, LongestRun, Outcome};
 use std::collections::{BTreeMap, HashSet};
 use std::fmt::Write;
@@ -31,6 +32,20 @@ impl Input {
                 second::analyse_pairs(*count, list, hours, record_area, reduced_area)
             }
             Input::Record(record) => second::read_record(record, reduced_area),
+        }
+    }
+
+    /// The job count and pair list of orders, as a sheet in form has them too.
+    fn listed(&self, outcome: &Outcome) -> Option<(u16, Vec<u16>)> {
+        match self {
+            // Not in form, and no need to read it again.
+            Input::Sheet(_) if outcome.number == 2 => None,
+            Input::Sheet(sheet) => {
+                let read = second::sheet::read(sheet).ok()?;
+                Some((read.count as u16, list(&read.orders)))
+            }
+            Input::Pairs(count, list, _) => Some((*count, list.clone())),
+            Input::Record(_) => None,
         }
     }
 
@@ -160,6 +175,8 @@ pub struct Tally {
     pub families: BTreeMap<&'static str, [u64; 14]>,
     /// Calls for a longest run, accepted and refused.
     pub runs: [u64; 2],
+    /// Calls for a count of joins: without a circle, with one, refused.
+    pub joins: [u64; 3],
     distinct: HashSet<u64>,
     pattern: u64,
 }
@@ -177,6 +194,9 @@ impl Tally {
         for (sum, calls) in self.runs.iter_mut().zip(other.runs) {
             *sum += calls;
         }
+        for (sum, calls) in self.joins.iter_mut().zip(other.joins) {
+            *sum += calls;
+        }
         self.distinct.extend(other.distinct);
     }
 
@@ -184,8 +204,9 @@ impl Tally {
         self.distinct.len()
     }
 
-    /// Holds every entry that takes the input against `second`, and the longest run
-    /// of the record that it is or gives; counts one input.
+    /// Holds every entry that takes the input against `second`, the longest run of
+    /// the record that it is or gives, and the joins of the orders that it has;
+    /// counts one input.
     pub fn compare(&mut self, input: &Input, record_area: usize, reduced_area: usize) -> Outcome {
         let expected = input.second(record_area, reduced_area);
         let lent = (record_area, reduced_area);
@@ -249,6 +270,9 @@ impl Tally {
         } else if expected.number == 0 {
             wrong = wrong.or_else(|| self.longest_run(&expected.record).1);
         }
+        if let Some((count, list)) = input.listed(&expected) {
+            wrong = wrong.or_else(|| self.joins(count, &list).1);
+        }
         self.count((input, record_area, reduced_area), expected.number);
         if let Some(wrong) = wrong {
             let areas = format!("record area {record_area}, reduced area {reduced_area}");
@@ -262,6 +286,15 @@ impl Tally {
     pub fn compare_run(&mut self, record: &[u8]) {
         let (number, wrong) = self.longest_run(record);
         self.count(("longest run", record), number);
+        if let Some(wrong) = wrong {
+            self.fail(&wrong);
+        }
+    }
+
+    /// Holds the joins of a pair list against `second`; counts one input.
+    pub fn compare_joins(&mut self, count: u16, list: &[u16]) {
+        let (number, wrong) = self.joins(count, list);
+        self.count(("joins", count, list), number);
         if let Some(wrong) = wrong {
             self.fail(&wrong);
         }
@@ -419,6 +452,33 @@ impl Tally {
         }
         if !copy.is(record) {
             let _ = writeln!(report, "    the record was changed");
+        }
+        (number, Some(report))
+    }
+
+    /// One call for the joins of a fresh copy of the pair list: the number that
+    /// `second` gives, and what is wrong with the call, if anything.
+    fn joins(&mut self, count: u16, list: &[u16]) -> (u64, Option<String>) {
+        let Joins {
+            number,
+            count: expected,
+        } = second::joins::of_list(count, list);
+        let copy = Lent::new(list);
+        let joins = ffi::joins(count, &copy) as u64;
+        let (kind, said) = match number {
+            0 => (0, "without a circle"),
+            7 => (1, "with a circle"),
+            _ => (2, "refused"),
+        };
+        self.joins[kind] += 1;
+        if joins == expected && copy.is(list) {
+            return (number, None);
+        }
+        let mut report = format!("joins of pair list: count {count}, list {list:?}\n");
+        let _ = writeln!(report, "  second: {expected} ({said})");
+        let _ = writeln!(report, "  bench_joins: {joins}");
+        if !copy.is(list) {
+            let _ = writeln!(report, "    the list was changed");
         }
         (number, Some(report))
     }

@@ -2,6 +2,7 @@
 
 use crate::check::{Input, Tally, ENOUGH};
 use crate::generate::*;
+use crate::joins;
 use crate::runs;
 use second::{cases, LONGEST_RECORD, LONGEST_SHEET, MOST_ORDERS};
 use std::collections::BTreeSet;
@@ -35,7 +36,7 @@ impl Task {
 
 /// All tasks, those of the heavy families first.
 pub fn tasks() -> Vec<Task> {
-    let families: [(&'static str, usize, Body); 37] = [
+    let families: [(&'static str, usize, Body); 45] = [
         (
             "sheets about the longest",
             LONG_COUNTS.len(),
@@ -72,6 +73,18 @@ pub fn tasks() -> Vec<Task> {
             runs::small_trees,
         ),
         ("longest runs of no record", 10, runs::no_records),
+        ("joins of repeated orders", 10, joins::repeated_orders),
+        ("joins of 4,096 orders", 10, joins::many_orders),
+        (
+            "joins of every relation on 3 jobs",
+            joins::RELATION_PARTS,
+            joins::every_relation,
+        ),
+        ("joins of some on 4 to 6 jobs", 10, joins::small_relations),
+        ("joins of series", joins::SERIES_PARTS, joins::series),
+        ("joins of a circle reached late", 10, joins::late_circles),
+        ("joins at the last jobs", joins::COUNTS.len(), joins::edges),
+        ("joins of lists with a fault", 10, joins::refused),
         ("hours of every bit pattern", PATTERN_PARTS, every_hours),
         ("every bit flipped", FLIP_PARTS, every_bit),
         ("hours alone differ", 20, hours_alone),

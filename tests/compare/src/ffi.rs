@@ -1,4 +1,4 @@
-//! The C entries of the library under test, and nothing else that is unsafe but
+//! The C entries of the libraries under test, and nothing else that is unsafe but
 //! what `lent` does and the mock's own bodies.
 
 use crate::check::Guarded;
@@ -64,6 +64,8 @@ extern "C" {
     ) -> u64;
 
     fn ordersheet_longest_run(record: *const u8, record_len: usize) -> Run;
+
+    fn bench_joins(arcs: *const u16, numbers: usize, n: u16, again: u16) -> usize;
 }
 
 /// What comes back of a longest run: its jobs, so many, have zeros after them.
@@ -165,4 +167,10 @@ pub fn test_read(record: &Lent<u8>, areas: &mut Areas) -> u64 {
 
 pub fn longest_run(record: &Lent<u8>) -> Run {
     unsafe { ordersheet_longest_run(record.pointer(), record.length()) }
+}
+
+pub fn joins(count: u16, list: &Lent<u16>) -> usize {
+    // the closure is made once more for every other number of orders: the count is the same
+    let again = (list.length() / 2 % 2) as u16;
+    unsafe { bench_joins(list.pointer(), list.length(), count, again) }
 }

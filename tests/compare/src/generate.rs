@@ -54,6 +54,13 @@ pub fn job_count(rng: &mut Rng) -> usize {
     }
 }
 
+/// So many jobs in any sequence.
+pub fn any_jobs(rng: &mut Rng, count: usize) -> Vec<usize> {
+    let mut jobs: Vec<usize> = (0..count).collect();
+    rng.shuffle(&mut jobs);
+    jobs
+}
+
 pub type Orders = Vec<(usize, usize)>;
 
 /// A tree, plain or not.

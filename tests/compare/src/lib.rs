@@ -5,6 +5,7 @@ pub mod check;
 pub mod families;
 pub mod ffi;
 pub mod generate;
+pub mod joins;
 pub mod lent;
 #[cfg(feature = "mock")]
 pub mod mock;

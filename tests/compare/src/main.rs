@@ -1,10 +1,12 @@
 //! `ORDERSHEET_LIB_DIR=DIR cargo run --release --offline` holds the libraries in
-//! DIR, as `rt staticlib desk` and `rt staticlib desk_tests` write them, against
-//! `second`; with `--features mock`, `second` against itself.
+//! DIR, as `rt staticlib desk`, `rt staticlib desk_tests` and `rt staticlib
+//! relation_bench` write them, against `second`; with `--features mock`, `second`
+//! against itself.
 //! `compare` runs every family, `compare WORD...` those whose names hold one of
 //! the words. The last line is `N passed, M failed`, N and M counting inputs: a
-//! sheet or pair list with two area lengths, a record with one, or a record for
-//! its longest run alone.
+//! sheet or pair list with two area lengths, a record with one, a record for its
+//! longest run alone, or a pair list for its joins alone. Answers of the last are
+//! numbered 0 without a circle, 7 with one, 3 and 5 where nothing is counted.
 
 use std::process::ExitCode;
 use std::time::Instant;
@@ -28,6 +30,8 @@ fn main() -> ExitCode {
     }
     let [accepted, refused] = tally.runs;
     println!("longest runs: {accepted} of records, {refused} of bytes that are none");
+    let [without, with, refused] = tally.joins;
+    println!("joins: {without} without a circle, {with} with one, {refused} refused");
     println!(
         "{} different inputs in {:.1} s",
         tally.distinct(),

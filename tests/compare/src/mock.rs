@@ -3,7 +3,9 @@
 
 use crate::ffi;
 use crate::generate::{list, with_hours_of, Bits};
+use second::joins::{self, Different, Joins};
 use second::longest::{self, Run};
+use second::order;
 use second::sheet::Sheet;
 use second::tree::Tree;
 use second::{packed, Outcome, LONGEST_RECORD, LONGEST_SHEET, MOST_HOURS};
@@ -12,7 +14,7 @@ use std::sync::atomic::{AtomicUsize, Ordering};
 
 pub static FAULT: AtomicUsize = AtomicUsize::new(0);
 
-pub const FAULTS: [&str; 108] = [
+pub const FAULTS: [&str; 135] = [
     "none",
     "a byte after the record is set",
     "a byte after the reduced orders is set",
@@ -121,6 +123,33 @@ pub const FAULTS: [&str; 108] = [
     "a run is given where a job does not stand",
     "a run is given where a group is in one of its kind",
     "a run is given where side children do not ascend",
+    "repeats of an order are joined again",
+    "a repeat is joined again where another order stands between",
+    "an order that follows from others is not joined",
+    "a join of a row with no jobs is not counted",
+    "without a circle the joins of the passes are counted",
+    "without a circle one join too few is counted",
+    "with a circle one join too few is counted",
+    "with a circle the different orders are counted",
+    "a row joined into itself is not counted",
+    "a join that adds no job is not counted in the passes",
+    "rows with no jobs are joined in the passes",
+    "the passes go by the written orders alone",
+    "the passes go from the last job to the first",
+    "joins made before the circle was met are counted too",
+    "a circle is not met unless job 0 is before it",
+    "an order onto itself is left out",
+    "joins are counted for more than 128 jobs",
+    "joins are not counted for 128 jobs",
+    "joins are counted where an order names a job not below the count",
+    "joins are counted where an order names the job numbered as the count",
+    "the last number of an odd list is taken for an order",
+    "an odd list has no joins",
+    "orders after the 4,096th are not joined",
+    "a row has no jobs from 64 on",
+    "a count of joins has 8 bits",
+    "a count of joins has 14 bits",
+    "a list is written to for its joins",
 ];
 
 fn fault(name: &str) -> bool {
@@ -916,6 +945,185 @@ fn wrong_run(record: &[u8]) -> ffi::Run {
         run.jobs[127] = 1;
     }
     run
+}
+
+/// The list as a count of joins takes it that is wrong about its orders.
+fn taken_list(list: &[u16]) -> Vec<u16> {
+    let mut taken = list.to_vec();
+    let odd = list.len() % 2 == 1;
+    if odd && fault("the last number of an odd list is taken for an order") {
+        taken.push(0);
+    }
+    if odd && fault("an odd list has no joins") {
+        taken.clear();
+    }
+    if fault("orders after the 4,096th are not joined") {
+        taken.truncate(2 * 4096);
+    }
+    let keep = |keeps: fn(&&[u16]) -> bool| list.chunks_exact(2).filter(keeps).flatten();
+    if fault("an order onto itself is left out") {
+        taken = keep(|order| order[0] != order[1]).copied().collect();
+    }
+    if fault("a row has no jobs from 64 on") {
+        taken = keep(|order| order[1] < 64).copied().collect();
+    }
+    taken
+}
+
+/// One join of the passes: the job whose row is joined and that whose row it is
+/// joined into, and whether the one row has jobs and the other gains some.
+struct Join {
+    job: usize,
+    into: usize,
+    has_jobs: bool,
+    adds: bool,
+}
+
+/// The joins of the passes that are counted, those of rows with no jobs among
+/// them.
+fn passes(jobs: usize, orders: &Different, counted: fn(Join) -> bool) -> u64 {
+    let mut rows = vec![vec![false; jobs]; jobs];
+    orders.iter().for_each(|&(u, v)| rows[u][v] = true);
+    let mut joins = 0;
+    for job in 0..jobs {
+        let joined = rows[job].clone();
+        for (into, row) in rows.iter_mut().enumerate().filter(|(_, row)| row[job]) {
+            let before = row.clone();
+            row.iter_mut()
+                .zip(&joined)
+                .for_each(|(has, &more)| *has |= more);
+            let join = Join {
+                job,
+                into,
+                has_jobs: joined.contains(&true),
+                adds: *row != before,
+            };
+            joins += counted(join) as u64;
+        }
+    }
+    joins
+}
+
+/// The orders onto a job that has an order onward.
+fn with_more_after(orders: &Different) -> u64 {
+    let goes_on = |job: usize| orders.iter().any(|&(u, _)| u == job);
+    orders.iter().filter(|order| goes_on(order.1)).count() as u64
+}
+
+/// The joins of a list without a circle, wrong in one way.
+fn wrong_without_circle(jobs: usize, list: &[u16], joins: u64) -> u64 {
+    let written = list.chunks_exact(2);
+    if fault("repeats of an order are joined again") {
+        return written.len() as u64;
+    }
+    if fault("a repeat is joined again where another order stands between") {
+        let mut written: Vec<&[u16]> = written.collect();
+        written.dedup();
+        return written.len() as u64;
+    }
+    if fault("an order that follows from others is not joined") {
+        let orders: Vec<(usize, usize)> = joins::different(list).into_iter().collect();
+        return order::reduced(&order::before(jobs, &orders)).len() as u64;
+    }
+    if fault("a join of a row with no jobs is not counted") {
+        return with_more_after(&joins::different(list));
+    }
+    if fault("without a circle the joins of the passes are counted") {
+        return joins::by_passes(jobs, &joins::different(list)).0;
+    }
+    if fault("without a circle one join too few is counted") {
+        return joins.saturating_sub(1);
+    }
+    joins
+}
+
+/// The joins of orders with a circle, wrong in one way.
+fn wrong_with_circle(jobs: usize, orders: &Different, joins: u64) -> u64 {
+    if fault("with a circle one join too few is counted") {
+        return joins - 1;
+    }
+    if fault("with a circle the different orders are counted") {
+        return orders.len() as u64;
+    }
+    if fault("a row joined into itself is not counted") {
+        return passes(jobs, orders, |join| join.has_jobs && join.job != join.into);
+    }
+    if fault("a join that adds no job is not counted in the passes") {
+        return passes(jobs, orders, |join| join.adds);
+    }
+    if fault("rows with no jobs are joined in the passes") {
+        return passes(jobs, orders, |_| true);
+    }
+    if fault("the passes go by the written orders alone") {
+        return with_more_after(orders);
+    }
+    if fault("the passes go from the last job to the first") {
+        let other = orders.iter().map(|&(u, v)| (jobs - 1 - u, jobs - 1 - v));
+        return joins::by_passes(jobs, &other.collect()).0;
+    }
+    let table = || joins::by_passes(jobs, orders).1;
+    if fault("joins made before the circle was met are counted too") {
+        let table = table();
+        let before_circle = |u: usize| (0..jobs).any(|v| table[u][v] && table[v][v]);
+        let made = orders.iter().filter(|order| !before_circle(order.0));
+        return joins + made.count() as u64;
+    }
+    if fault("a circle is not met unless job 0 is before it") {
+        let table = table();
+        if !(0..jobs).any(|v| table[0][v] && table[v][v]) {
+            return orders.len() as u64;
+        }
+    }
+    joins
+}
+
+/// The joins of a list, wrong in one way.
+fn wrong_joins(count: u16, list: &[u16]) -> u64 {
+    let list = taken_list(list);
+    let jobs = count as usize;
+    let Joins {
+        number,
+        count: mut joins,
+    } = joins::of_list(count, &list);
+    match number {
+        0 => joins = wrong_without_circle(jobs, &list, joins),
+        7 => joins = wrong_with_circle(jobs, &joins::different(&list), joins),
+        3 if fault("joins are counted for more than 128 jobs") => {
+            joins = joins::different(&list).len() as u64;
+        }
+        5 if fault("joins are counted where an order names a job not below the count") => {
+            let mut orders = joins::different(&list);
+            orders.retain(|&(u, v)| u < jobs && v < jobs);
+            joins = orders.len() as u64;
+        }
+        5 if fault("joins are counted where an order names the job numbered as the count") => {
+            joins = second::joins(count + 1, &list);
+        }
+        _ => {}
+    }
+    if count == 128 && fault("joins are not counted for 128 jobs") {
+        joins = 0;
+    }
+    if fault("a count of joins has 8 bits") {
+        joins %= 1 << 8;
+    }
+    if fault("a count of joins has 14 bits") {
+        joins %= 1 << 14;
+    }
+    joins
+}
+
+#[no_mangle]
+pub unsafe extern "C" fn bench_joins(
+    arcs: *const u16,
+    numbers: usize,
+    n: u16,
+    _again: u16,
+) -> usize {
+    if numbers > 0 && fault("a list is written to for its joins") {
+        *(arcs as *mut u16).add(numbers - 1) ^= 1;
+    }
+    wrong_joins(n, from_raw_parts(arcs, numbers)) as usize
 }
 
 #[no_mangle]

@@ -13,12 +13,6 @@ fn each_hours(rng: &mut Rng, count: usize) -> [Vec<u16>; 6] {
     [vec![0; count], vec![4095; count], two, three, any, within]
 }
 
-fn any_jobs(rng: &mut Rng, count: usize) -> Vec<usize> {
-    let mut jobs: Vec<usize> = (0..count).collect();
-    rng.shuffle(&mut jobs);
-    jobs
-}
-
 /// A job count, small or any.
 fn small_or_any(rng: &mut Rng) -> usize {
     if rng.percent(10) {

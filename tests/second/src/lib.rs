@@ -1,8 +1,10 @@
-//! The analysis of order sheets and pair lists, the record reader and the longest
-//! run, written from document 01 and requests A.1 to A.3 alone by the plainest
-//! search their words allow.
+//! The analysis of order sheets and pair lists, the record reader, the longest run
+//! and the count of joins, written from document 01 and requests A.1 to A.4 alone
+//! by the plainest search their words allow; the count with a circle, of which
+//! they say nothing, by the definition that the product has.
 
 pub mod cases;
+pub mod joins;
 pub mod longest;
 pub mod order;
 pub mod record;
@@ -186,6 +188,13 @@ pub fn longest_run(record: &[u8]) -> LongestRun {
         total: run.total as u64,
         jobs: run.jobs.into_iter().map(|job| job as u8).collect(),
     }
+}
+
+/// The joins of one job's row into another's that make a pair list's followed-on
+/// order: without a circle as many as there are different orders. 0 where there
+/// are more than 128 jobs or an order names a job not below the count.
+pub fn joins(count: u16, list: &[u16]) -> u64 {
+    joins::of_list(count, list).count
 }
 
 /// The numbers, and zeros after them.

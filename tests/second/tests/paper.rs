@@ -1,10 +1,10 @@
-//! What document 01 and requests A.1 to A.3 say of single sheets, lists and
+//! What document 01 and requests A.1 to A.4 say of single sheets, lists and
 //! records.
 
 use second::cases::{cases, sheet, widest, zeros};
 use second::{
-    analyse_pairs, analyse_sheet, longest_run, packed, printed, read_record, LongestRun, Outcome,
-    LONGEST_RECORD, LONGEST_SHEET, MOST_ORDERS,
+    analyse_pairs, analyse_sheet, joins, longest_run, packed, printed, read_record, LongestRun,
+    Outcome, LONGEST_RECORD, LONGEST_SHEET, MOST_ORDERS,
 };
 
 const ENOUGH: (usize, usize) = (464, 8192);
@@ -666,4 +666,98 @@ fn no_run_of_what_is_no_record() {
     let bytes: Vec<u8> = (0..bits.len() / 8).map(byte).collect();
     assert_eq!((bits.len() / 8, bits.len() % 8), (11, 0));
     assert_eq!(longest_run(&bytes), none);
+}
+
+#[test]
+fn joins_without_a_circle() {
+    for (count, list, joined) in [
+        (0, &[][..], 0),
+        (0, &[0], 0),
+        (1, &[], 0),
+        (128, &[], 0),
+        (2, &[0, 1], 1),
+        (2, &[1, 0], 1),
+        (128, &[127, 0], 1),
+        (128, &[63, 64], 1),
+        // Written twice, or ten times.
+        (2, &[0, 1, 0, 1], 1),
+        (2, &[0, 1].repeat(10), 1),
+        (3, &[0, 1, 1, 2, 0, 1], 2),
+        // An order that follows from others is joined all the same.
+        (3, &[0, 1, 1, 2, 0, 2], 3),
+        (3, &[0, 2, 0, 1, 1, 2], 3),
+        (5, &[0, 1, 0, 2, 1, 3, 2, 3, 0, 3], 5),
+        // The last number of an odd list is no order.
+        (2, &[0, 1, 0], 1),
+        (2, &[0, 1, 1], 1),
+        (2, &[0, 1, 9], 1),
+        (2, &[9], 0),
+    ] {
+        assert_eq!(joins(count, list), joined, "{count} {list:?}");
+    }
+    let series: Vec<u16> = (1..128).flat_map(|job| [job - 1, job]).collect();
+    let turned: Vec<u16> = series.iter().rev().copied().collect();
+    let mut every = Vec::new();
+    let mut wide = Vec::new();
+    for u in 0..128 {
+        (u + 1..128).for_each(|v| every.extend([u, v]));
+        (64..128).for_each(|v| wide.extend([u % 64, v]));
+    }
+    for (list, joined) in [(series, 127), (turned, 127), (every, 8128), (wide, 4096)] {
+        assert_eq!(joins(128, &list), joined);
+        assert_eq!(joins(128, &[&list[..], &list].concat()), joined);
+        assert_eq!(joins(127, &list), 0);
+        assert_eq!(joins(129, &list), 0);
+    }
+}
+
+#[test]
+fn joins_with_a_circle() {
+    for (count, list, joined) in [
+        // A job's row into itself.
+        (1, &[0, 0][..], 1),
+        (2, &[1, 1], 1),
+        (128, &[127, 127, 127, 127], 1),
+        // 0 into 1; then 1 into 0 and 1.
+        (2, &[0, 1, 1, 0], 3),
+        (2, &[0, 0, 0, 1, 1, 0, 1, 1], 4),
+        // 0 into 2; 1 into 0 and 2; 2 into all three.
+        (3, &[0, 1, 1, 2, 2, 0], 6),
+        // The other way round: 0 into 1; 1 into 2; 2 into all three.
+        (3, &[0, 2, 2, 1, 1, 0], 5),
+        // 0 into 0; 1 into 0; the row of 2 is empty.
+        (3, &[0, 0, 0, 1, 1, 2], 2),
+        // A job ahead of a circle: 1 into 0 and 2; 2 into all three.
+        (3, &[0, 1, 1, 2, 2, 1], 5),
+        // The same with 2 ahead: 0 into 1 and 2; 1 into all three; no row has 2.
+        (3, &[2, 0, 0, 1, 1, 0], 5),
+        // 1 into 0; 2 into 0, 1 and 2; no row has 3, and that of 4 is empty.
+        (5, &[3, 4, 0, 1, 1, 2, 2, 2], 4),
+    ] {
+        assert_eq!(joins(count, list), joined, "{count} {list:?}");
+        assert_eq!(joins(count, &list.repeat(3)), joined, "{count} {list:?}");
+    }
+    let mut every = Vec::new();
+    (0..128).for_each(|u| (0..128).for_each(|v| every.extend([u, v])));
+    assert_eq!(joins(128, &every), 16_384);
+    assert_eq!(joins(127, &every), 0);
+}
+
+#[test]
+fn no_joins_are_counted() {
+    for (count, list) in [
+        (0, &[0, 0][..]),
+        (1, &[0, 1]),
+        (1, &[1, 0]),
+        (2, &[0, 1, 0, 2]),
+        (2, &[2, 2, 0, 1]),
+        (2, &[0, 1, 1, 0, 65_535, 0]),
+        (128, &[0, 1, 0, 128]),
+        (129, &[0, 1]),
+        (129, &[0, 128, 128, 0]),
+        (256, &[0, 1]),
+        (65_535, &[0, 1, 1, 0]),
+    ] {
+        assert_eq!(joins(count, list), 0, "{count} {list:?}");
+    }
 }

@@ -1,8 +1,9 @@
 //! Everything of a small size, held against the definitions in their barest form.
 
+use second::joins::{by_passes, different, of_list, Joins};
 use second::order::{before, first_n, free, reduced, Before};
 use second::tree::{of_order, Tree};
-use second::{analyse_pairs, longest_run, read_record, record, sheet};
+use second::{analyse_pairs, joins, longest_run, read_record, record, sheet};
 use std::collections::{BTreeMap, HashSet};
 
 /// Different hours for each job, 0 and the most among them.
@@ -445,6 +446,130 @@ fn longest_run_of_some_records_of_up_to_12_jobs() {
         }
         check_run_by_every_set(&with_hours(&tree, &vec![4095; count]), count);
     }
+}
+
+/// A job's row, made once from the finished rows of the jobs after it, each join
+/// counted; for orders without a circle.
+fn finished_row(job: usize, next: &Before, rows: &mut [Option<Vec<bool>>], joins: &mut u64) {
+    if rows[job].is_some() {
+        return;
+    }
+    let mut row = vec![false; next.len()];
+    for after in (0..next.len()).filter(|&after| next[job][after]) {
+        finished_row(after, next, rows, joins);
+        row[after] = true;
+        for (has, more) in row.iter_mut().zip(rows[after].as_ref().unwrap()) {
+            *has |= more;
+        }
+        *joins += 1;
+    }
+    rows[job] = Some(row);
+}
+
+/// The joins of the passes by what the rows are known to be: at the time of a
+/// job's pass a row has those jobs to which a run over smaller jobs alone leads.
+fn joins_by_runs(next: &Before) -> u64 {
+    let count = next.len();
+    let mut joins = 0;
+    for job in (0..count).filter(|&job| next[job].contains(&true)) {
+        for from in 0..count {
+            let mut met = vec![false; count];
+            let mut to_visit = vec![from];
+            while let Some(at) = to_visit.pop() {
+                for after in (0..count).filter(|&after| next[at][after]) {
+                    if !met[after] && after < job {
+                        to_visit.push(after);
+                    }
+                    met[after] = true;
+                }
+            }
+            joins += met[job] as u64;
+        }
+    }
+    joins
+}
+
+/// The joins of orders on so many jobs, each order written once and then again in
+/// another sequence, against both ways to count them; whether there is a circle.
+fn check_joins(numbers: &mut Numbers, count: usize, orders: &[(usize, usize)]) -> bool {
+    let mut next = vec![vec![false; count]; count];
+    orders.iter().for_each(|&(u, v)| next[u][v] = true);
+    let table = followed_on(count, orders);
+    let circle = (0..count).any(|job| table[job][job]);
+    let mut expected = 0;
+    if circle {
+        expected = joins_by_runs(&next);
+    } else {
+        let mut rows = vec![None; count];
+        for job in 0..count {
+            finished_row(job, &next, &mut rows, &mut expected);
+        }
+        let rows: Before = rows.into_iter().map(Option::unwrap).collect();
+        assert_eq!(rows, table);
+    }
+
+    let mut again = orders.to_vec();
+    for _ in 0..2 {
+        let list: Vec<u16> = again
+            .iter()
+            .flat_map(|&(u, v)| [u as u16, v as u16])
+            .collect();
+        let given = Joins {
+            number: if circle { 7 } else { 0 },
+            count: expected,
+        };
+        assert_eq!(of_list(count as u16, &list), given, "{count} {list:?}");
+        assert_eq!(joins(count as u16, &list), expected);
+        // The last number of an odd list is left out, wherever it would lead.
+        let odd = [&list[..], &[u16::MAX]].concat();
+        assert_eq!(joins(count as u16, &odd), expected);
+        assert_eq!(by_passes(count, &different(&list)).1, table);
+        for _ in 0..4 * orders.len() {
+            again.push(orders[numbers.below(orders.len())]);
+        }
+        for i in 1..again.len() {
+            again.swap(i, numbers.below(i + 1));
+        }
+    }
+    circle
+}
+
+#[test]
+fn joins_of_every_relation_on_up_to_four_jobs() {
+    let mut numbers = Numbers(4);
+    // Graphs without a circle on labelled jobs.
+    for (count, without) in [(0, 1), (1, 1), (2, 3), (3, 25), (4, 543)] {
+        let mut circles = 0;
+        for relation in 0u32..1 << (count * count) {
+            let chosen = (0..count * count).filter(|i| relation >> i & 1 == 1);
+            let orders: Vec<(usize, usize)> = chosen.map(|i| (i / count, i % count)).collect();
+            circles += check_joins(&mut numbers, count, &orders) as u32;
+        }
+        assert_eq!((1 << (count * count)) - circles, without);
+    }
+}
+
+#[test]
+fn joins_of_some_relations_on_up_to_20_jobs() {
+    let mut numbers = Numbers(5);
+    let mut circles = 0;
+    for round in 0..6000 {
+        let count = 5 + round % 16;
+        let mut rank = jobs(count);
+        for i in 1..count {
+            rank.swap(i, numbers.below(i + 1));
+        }
+        let along_rank = round % 4 > 0;
+        let mut orders = Vec::new();
+        for _ in 0..numbers.below([count, 2 * count, count * count][round % 3] + 1) {
+            let (u, v) = (numbers.below(count), numbers.below(count));
+            if rank[u] < rank[v] || !along_rank || numbers.below(200) == 0 {
+                orders.push((u, v));
+            }
+        }
+        circles += check_joins(&mut numbers, count, &orders) as u32;
+    }
+    assert!((1000..5000).contains(&circles), "{circles}");
 }
 
 /// Whether the whole text has the line form.

@@ -8,8 +8,7 @@ use native.Mathlib.Omega.{arith}
 use Rattle.poset.specs.Order.{Arc, before, firstOnCycle}
 use Rattle.relation.specs.Table.{holds, Inside}
 use Rattle.relation.specs.Arcs.{pairs, found}
-use Rattle.relation.proofs.Chain.{table-inside, closure-before, closure-strict}
-use Rattle.relation.proofs.Warshall.{closure-inside}
+use Rattle.relation.proofs.Chain.{table-inside, closure-before, closure-strict, closure-inside}
 use Rattle.analysis.specs.Result.{rooms}
 use Rattle.analysis.proofs.Circles.{gives-circle, no-circle}
 use Rattle.analysis.proofs.Crossing.{gives-same, gives-told}
@@ -40,19 +39,19 @@ module _ (c : tie.After-table-of) where
   inside = table-inside n arcs (c .table-of .result) (c .table-of .ensures) (start .pre .1 .0)
 
 -- its closure
-module _ (c : tie.After-closure) where
+module _ (c : tie.After-transitive-closure) where
   abbrev t : tie.After-table-of
-  t = c .before
+  t = c .before .before
 
-  closes : holds (c .closure .result) ≡ before (n t) (arcs t)
-  closes = closure-before (n t) (arcs t) (t .table-of .result) (t .table-of .ensures) (c .closure .result) (c .closure .ensures)
+  closes : holds (c .transitive-closure .result) ≡ before (n t) (arcs t)
+  closes = closure-before (n t) (arcs t) (t .table-of .result) (t .table-of .ensures) (c .transitive-closure .result) (c .transitive-closure .ensures .0)
 
 -- no job is before itself
 module _ (c : tie.After-enum-told) where
-  abbrev k : tie.After-closure
+  abbrev k : tie.After-transitive-closure
   k = c .before .before .before
 
-  none-here : firstOnCycle (n (t k)) (holds (k .closure .result)) ≡ none
+  none-here : firstOnCycle (n (t k)) (holds (k .transitive-closure .result)) ≡ none
   none-here = sym (c .before .before .first-on-cycle .ensures) ∙ ap found (c .enum-told .given .1)
 
 table-of-requires : tie.Need-table-of-requires
@@ -60,8 +59,8 @@ table-of-requires c κs =
     let s = c .before .before .before .before in
     λ a m. (omega (arith, s .pre .1 .0 a m .0, s .pre .0 .1), omega (arith, s .pre .1 .0 a m .1, s .pre .0 .1))
 
-closure-requires : tie.Need-closure-requires
-closure-requires c κs = (start c .pre .0 .1, inside c)
+transitive-closure-requires : tie.Need-transitive-closure-requires
+transitive-closure-requires c κs = let t = c .before in (start t .pre .0 .1, inside t)
 
 first-on-cycle-requires : tie.Need-first-on-cycle-requires
 first-on-cycle-requires c κs = search needs
@@ -82,9 +81,10 @@ take-apart-requires c κs =
     let p = t q in (
       start p .pre .0,
       (
-        closure-strict (n p) (arcs p) (p .table-of .result) (p .table-of .ensures) (q .closure .result) (q .closure .ensures) (none-here o),
+        closure-strict (n p) (arcs p) (p .table-of .result) (p .table-of .ensures) (q .transitive-closure .result) (q .transitive-closure .ensures .0)
+            (none-here o),
         (
-          closure-inside (n p) (p .table-of .result) (q .closure .result) (n p) (inside p) (q .closure .ensures),
+          closure-inside (n p) (p .table-of .result) (q .transitive-closure .result) (n p) (inside p) (q .transitive-closure .ensures .0),
           start p .pre .1 .1,
         ),
       ),
@@ -109,7 +109,7 @@ returns-2 c =
     let o = c .before .before .before .before .before .before .before in
     let q = k o in
     let p = t q in
-    gives-same (no-circle (rooms (bytes p) (area p)) (n p) (hours p) (before (n p) (arcs p)) (holds (q .closure .result)) (closes q) (none-here o))
+    gives-same (no-circle (rooms (bytes p) (area p)) (n p) (hours p) (before (n p) (arcs p)) (holds (q .transitive-closure .result)) (closes q) (none-here o))
     (c .before .before .before .before .take-apart .ensures)
 
 pub of-arcs-spec : {M : Type 1} → statement M
@@ -117,7 +117,7 @@ of-arcs-spec =
     tie.close
     (tie.spec
     table-of-requires
-    closure-requires
+    transitive-closure-requires
     first-on-cycle-requires
     enum-known-circle
     refused-requires

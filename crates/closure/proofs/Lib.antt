@@ -1,0 +1,9 @@
+pub mod Counting
+pub mod Columns
+pub mod Warshall
+pub mod Arcs
+pub mod Joining
+pub mod Onward
+pub mod Waiting
+pub mod Search
+pub mod Theorems
