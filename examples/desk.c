@@ -4,7 +4,7 @@
  *     cc -std=c11 -Wall -Wextra -O2 -Iinclude examples/desk.c target/staticlib/libdesk.a -o desk
  *
  * Exit status: 0 accepted, 1 refused, 2 a wrong usage or a file that cannot be read, 3 the record reads back
- * otherwise or has no longest run. */
+ * otherwise, or has no longest run or no gangs. */
 
 #define _POSIX_C_SOURCE 200809L
 #include <fcntl.h>
@@ -103,6 +103,19 @@ static void show_run(const ordersheet_run *run)
     printf("\n");
 }
 
+static void show_gangs(const ordersheet_gang_plan *plan)
+{
+    unsigned jobs = (record[0] >> 1) + 1; /* the first 7 bits of a record are its job count minus 1 */
+    printf("fewest gangs: %" PRIu64 "\n", plan->count);
+    for (unsigned gang = 0; gang < plan->count; gang++) {
+        printf("gang %u: %" PRIu32 " hours, jobs", gang, plan->hours[gang]);
+        for (unsigned job = 0; job < jobs; job++)
+            if (plan->gangs[job] == gang)
+                printf(" %u", job);
+        printf("\n");
+    }
+}
+
 int main(int arguments, char **argument)
 {
     if (arguments != 2) {
@@ -132,7 +145,13 @@ int main(int arguments, char **argument)
         fprintf(stderr, "the record has no longest run: %" PRIx64 "\n", run.answer);
         return 3;
     }
+    ordersheet_gang_plan plan = ordersheet_gangs(record, bytes);
+    if (ordersheet_number(plan.answer) != 0) {
+        fprintf(stderr, "the record has no gangs: %" PRIx64 "\n", plan.answer);
+        return 3;
+    }
     show(bytes, orders, ordersheet_third(answer));
     show_run(&run);
+    show_gangs(&plan);
     return 0;
 }

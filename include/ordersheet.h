@@ -1,17 +1,17 @@
-/* Order sheets and cutting records: the planning desk's three calls.
+/* Order sheets and cutting records: the planning desk's four calls.
  *
  * A sheet is a line with the job count, then as many lines as the count says, each with one job's hours from job 0 on,
  * then a line for each order, two job numbers with one space between. A number has one to three digits, hours one to
  * four, and no leading zero. A line ends in \n or \r\n.
  *
- * Each call hands back an answer, one 64-bit number; that of a longest run stands ahead of the run:
+ * Each call hands back an answer, one 64-bit number; those of a longest run and of gangs stand ahead of them:
  *
  *     number + 2^8 * first + 2^24 * second + 2^40 * third + 2^48 * fourth
  *
  * Number 0 is acceptance; its places are the record's bytes, the reduced orders, the groups in the tree, and 0, or all
- * 0 for a longest run. The others are refusals, tested in the order 1, 2, 3, 4, 13, 5, 6, 7, 8, 9, 10 for a sheet and
- * 11, 10 for a record that is read; a longest run is refused with 11 alone. A place that is not named here is 0.
- * Orders, jobs and bytes are counted from 0.
+ * 0 for a longest run and for gangs. The others are refusals, tested in the order 1, 2, 3, 4, 13, 5, 6, 7, 8, 9, 10 for
+ * a sheet and 11, 10 for a record that is read; a longest run and gangs are refused with 11 alone. A place that is not
+ * named here is 0. Orders, jobs, gangs and bytes are counted from 0.
  *
  *      1  the sheet is longer than ORDERSHEET_SHEET bytes
  *      2  the sheet breaks the line form; first: the byte where it does, or the sheet's length where it stops short
@@ -29,13 +29,13 @@
  *
  * A refusal leaves the areas untouched. On acceptance the bytes after the written ones stay. ORDERSHEET_RECORD_AREA
  * and ORDERSHEET_REDUCED_AREA bytes are always enough, and 9 and 10 are then never given. Any lengths may be lent. A
- * longest run takes no area.
+ * longest run and gangs take no area.
  *
  * A pointer is good for as many bytes as the length after it says; where that is 0 it is not followed. An area
  * overlaps neither the other area nor the input. The calls never fail otherwise, whatever the input is: they
  * allocate nothing, keep nothing between calls, and may run on several threads at once. A call takes less than
  * ORDERSHEET_STACK bytes of stack: tests/stack/stack.c measures up to 50,000 for a sheet and, for bytes offered as a
- * record, 17,000 to read them and 14,000 for a longest run. */
+ * record, 17,000 to read them, 14,000 for a longest run and 15,000 for gangs. */
 
 #ifndef ORDERSHEET_H
 #define ORDERSHEET_H
@@ -73,6 +73,19 @@ typedef struct {
 /* The longest run of a record. The total is the fewest hours in which all jobs can be done with hands enough. A chain
  * adds its children's runs, a side group takes that of its first child with the greatest total. */
 ordersheet_run ordersheet_longest_run(const uint8_t *record, size_t record_length);
+
+/* The fewest gangs: each job is in one gang, and of any two jobs of a gang one is before the other. */
+typedef struct {
+    uint64_t answer;                 /* 0, its places 0; or 11, and then all below is 0 */
+    uint64_t count;                  /* how many gangs: 1 to ORDERSHEET_JOBS */
+    uint32_t hours[ORDERSHEET_JOBS]; /* of each gang, its jobs' hours together, then zeros */
+    uint8_t gangs[ORDERSHEET_JOBS];  /* of each job, its gang, then zeros */
+} ordersheet_gang_plan;
+
+/* The gangs of a record: as many as there are jobs in the largest set of jobs that are all free of each other. A side
+ * group numbers its children's gangs one after the other, a chain joins gang 0 of every child, then gang 1, and so on.
+ * A record of n jobs has n gang numbers; the first 7 bits of its bytes are n - 1. */
+ordersheet_gang_plan ordersheet_gangs(const uint8_t *record, size_t record_length);
 
 /* An answer's number and places. */
 static inline unsigned ordersheet_number(uint64_t answer) { return answer & 0xff; }

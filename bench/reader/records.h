@@ -1,4 +1,4 @@
-// What reader/ and longest/ read: records made from sheets, bytes that are none, and damaged records. All from fixed seeds: every run has the same ones.
+// What reader/, longest/ and gangs/ read: records made from sheets, bytes that are none, and damaged records. All from fixed seeds: each run has the same.
 #include "../../include/ordersheet.h"
 #include <stdio.h>
 #include <stdlib.h>

@@ -1,8 +1,9 @@
-// The calls from C++: a sheet, its record read back, and the record's longest run, in full and cut off. Exit status 0: each gives what it should.
+// The calls from C++: a sheet, its record read back, and the record's longest run and gangs, in full and cut off. Exit status 0: each gives what it should.
 
 #include "ordersheet.h"
 
 static_assert(sizeof(ordersheet_run) == 152, "a run has 152 bytes");
+static_assert(sizeof(ordersheet_gang_plan) == 656, "a plan has 656 bytes");
 
 int main()
 {
@@ -17,5 +18,13 @@ int main()
     bool found = run.answer == 0 && run.total == 7 && run.count == 2 && run.jobs[0] == 1 && run.jobs[1] == 0;
     ordersheet_run none = ordersheet_longest_run(record, ordersheet_first(answer) - 1);
     bool refused = none.answer == 11 && none.total == 0 && none.count == 0 && none.jobs[0] == 0 && none.jobs[ORDERSHEET_JOBS - 1] == 0;
-    return accepted && same && orders && found && refused ? 0 : 1;
+    ordersheet_gang_plan plan = ordersheet_gangs(record, ordersheet_first(answer));
+    bool parted = plan.answer == 0 && plan.count == 1 && plan.hours[0] == 7 && plan.hours[1] == 0 && plan.gangs[0] == 0 && plan.gangs[1] == 0;
+    const uint8_t free_sheet[] = {'2', '\n', '3', '\n', '7', '\n'};
+    uint64_t free_answer = ordersheet_analyse(free_sheet, sizeof free_sheet, again, sizeof again, reduced, sizeof reduced);
+    ordersheet_gang_plan two = ordersheet_gangs(again, ordersheet_first(free_answer));
+    bool two_gangs = two.answer == 0 && two.count == 2 && two.hours[0] == 3 && two.hours[1] == 7 && two.gangs[0] == 0 && two.gangs[1] == 1;
+    ordersheet_gang_plan empty = ordersheet_gangs(record, ordersheet_first(answer) - 1);
+    bool turned = empty.answer == 11 && empty.count == 0 && empty.hours[0] == 0 && empty.hours[ORDERSHEET_JOBS - 1] == 0 && empty.gangs[ORDERSHEET_JOBS - 1] == 0;
+    return accepted && same && orders && found && refused && parted && two_gangs && turned ? 0 : 1;
 }

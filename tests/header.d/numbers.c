@@ -1,4 +1,4 @@
-/* Holds the numbers of ordersheet.h, what it says of the areas, and longest runs worked by hand, to the library. Prints a line for each that is wrong, then 'N passed, M failed'. */
+/* Holds the numbers of ordersheet.h, what it says of the areas, and longest runs and gangs worked by hand, to the library. Prints a line for each that is wrong, then 'N passed, M failed'. */
 
 #define _DEFAULT_SOURCE
 #include <inttypes.h>
@@ -12,6 +12,7 @@
 static uint64_t (*const analyse)(const uint8_t *, size_t, uint8_t *, size_t, uint8_t *, size_t) = ordersheet_analyse;
 static uint64_t (*const reread)(const uint8_t *, size_t, uint8_t *, size_t) = ordersheet_read;
 static ordersheet_run (*const longest_run)(const uint8_t *, size_t) = ordersheet_longest_run;
+static ordersheet_gang_plan (*const gang_plan)(const uint8_t *, size_t) = ordersheet_gangs;
 
 enum { BEHIND = 64, FILL = 0xa5 }; /* bytes behind the longest area that stay as well, and what all are filled with */
 static char sheet[ORDERSHEET_SHEET + (1 << 16)];
@@ -94,6 +95,36 @@ static void no_run(const char *name, const uint8_t *bytes, size_t size)
     check(name, "refused, and the run is not all 0", memcmp(&run, &none, sizeof run) == 0);
 }
 
+/* The bytes have so many gangs, with these hours, and so many jobs, in these gangs; zeros after both. */
+static void parted(const char *name, const uint8_t *bytes, size_t size, unsigned count, const uint32_t *hours, unsigned jobs, const uint8_t *gangs)
+{
+    char what[100];
+    ordersheet_gang_plan plan = gang_plan(bytes, size), expected = {0, count, {0}, {0}};
+    is(name, plan.answer, 0, 0, 0, 0, 0);
+    snprintf(what, sizeof what, "there are %" PRIu64 " gangs, expected %u", plan.count, count);
+    check(name, what, plan.count == count);
+    memcpy(expected.hours, hours, count * sizeof *hours);
+    memcpy(expected.gangs, gangs, jobs);
+    check(name, "the gangs have other hours, or no zeros after them", memcmp(plan.hours, expected.hours, sizeof plan.hours) == 0);
+    check(name, "the jobs have other gangs, or no zeros after them", memcmp(plan.gangs, expected.gangs, sizeof plan.gangs) == 0);
+}
+
+/* The bytes are refused with 11, and there are no gangs. */
+static void no_gangs(const char *name, const uint8_t *bytes, size_t size)
+{
+    static const ordersheet_gang_plan none = {11, 0, {0}, {0}};
+    ordersheet_gang_plan plan = gang_plan(bytes, size);
+    is(name, plan.answer, 11, 0, 0, 0, 0);
+    check(name, "refused, and the gangs are not all 0", memcmp(&plan, &none, sizeof plan) == 0);
+}
+
+/* The bytes are refused with 11 by both questions. */
+static void no_answer(const char *name, const uint8_t *bytes, size_t size)
+{
+    no_run(name, bytes, size);
+    no_gangs(name, bytes, size);
+}
+
 /* The sheet is refused so with areas of these lengths, and neither area is written to. */
 static void refused(const char *name, size_t record_room, size_t reduced_room, unsigned number, unsigned first, unsigned second, unsigned third,
                     unsigned fourth)
@@ -120,7 +151,7 @@ static void unread(const char *name, size_t bytes, size_t reduced_room, unsigned
     is(name, reread(record, bytes, again, reduced_room), number, 0, 0, 0, 0);
     check(name, "refused, and the area changed", filled(again, 0, sizeof again));
     if (number == 11)
-        no_run(name, record, bytes);
+        no_answer(name, record, bytes);
 }
 
 static void packing(void)
@@ -239,34 +270,57 @@ static void older(void)
     unread("128 jobs without hours", 130, ORDERSHEET_REDUCED_AREA, 11);
 }
 
-/* The sheet's record has this longest run, and stays as it is. */
-static void sheet_runs(const char *name, const char *text, unsigned total, unsigned count, const uint8_t *jobs)
+/* The sheet's record into the record area, and a copy of that; its bytes. */
+static uint8_t before[sizeof record];
+static size_t recorded(const char *name, const char *text)
 {
-    uint8_t before[sizeof record];
     fill();
     uint64_t answer = analyse((const uint8_t *)text, strlen(text), record, ORDERSHEET_RECORD_AREA, reduced, ORDERSHEET_REDUCED_AREA);
     check(name, "the sheet is refused", ordersheet_number(answer) == 0);
     memcpy(before, record, sizeof record);
-    runs(name, record, ordersheet_first(answer), total, count, jobs);
-    check(name, "the record changed", memcmp(record, before, sizeof record) == 0);
+    return ordersheet_first(answer);
+}
+static void kept(const char *name) { check(name, "the record changed", memcmp(record, before, sizeof record) == 0); }
+
+/* The sheet's record has this longest run, and stays as it is. */
+static void sheet_runs(const char *name, const char *text, unsigned total, unsigned count, const uint8_t *jobs)
+{
+    size_t size = recorded(name, text);
+    runs(name, record, size, total, count, jobs);
+    kept(name);
+}
+
+/* The sheet's record has these gangs, and stays as it is. */
+static void sheet_gangs(const char *name, const char *text, unsigned count, const uint32_t *hours, unsigned jobs, const uint8_t *gangs)
+{
+    size_t size = recorded(name, text);
+    parted(name, record, size, count, hours, jobs, gangs);
+    kept(name);
 }
 #define JOBS(...) sizeof((const uint8_t[]){__VA_ARGS__}), (const uint8_t[]){__VA_ARGS__}
+#define HOURS(...) sizeof((const uint32_t[]){__VA_ARGS__}) / sizeof(uint32_t), (const uint32_t[]){__VA_ARGS__}
+
+/* DESK.md's record, and a byte. */
+static const uint8_t hull[] = {0x09, 0x81, 0x81, 0x00, 0x01, 0x46, 0x04, 0x04, 0x04, 0x00, 0x80, 0x40, 0x0c, 0x06, 0x01, 0x00, 0x20, 0x00};
+
+/* DESK.md's record with a byte more and cut off, and the bytes that DESK.md names as no record. */
+static void no_records(void)
+{
+    no_answer("DESK.md's record and a byte", hull, sizeof hull);
+    for (size_t size = 0; size < sizeof hull - 1; size++)
+        no_answer("DESK.md's record cut off", hull, size);
+    static const uint8_t others[][8] = {{0x03, 0x81, 0x01}, {0x03, 0x01}, {0x03, 0x01, 0x01}};
+    no_answer("a side group the wrong way round", others[0], 7);
+    no_answer("job 0 twice", others[1], 7);
+    no_answer("a byte too many", others[2], 8);
+}
 
 static void longest_runs(void)
 {
     check("ordersheet_run", "a run has not 152 bytes", sizeof(ordersheet_run) == 152);
 
-    /* DESK.md's record: 40 + 16 + 24 hours; each part of it alone is no record. */
-    static const uint8_t hull[] = {0x09, 0x81, 0x81, 0x00, 0x01, 0x46, 0x04, 0x04, 0x04, 0x00, 0x80, 0x40, 0x0c, 0x06, 0x01, 0x00, 0x20, 0x00};
-    runs("a run, DESK.md's record", hull, 17, 80, JOBS(0, 1, 3));
-    no_run("a run, DESK.md's record and a byte", hull, 18);
-    for (size_t size = 0; size < 17; size++)
-        no_run("a run, DESK.md's record cut off", hull, size);
-    static const uint8_t others[][8] = {{0x03, 0x81, 0x01}, {0x03, 0x01}, {0x03, 0x01, 0x01}};
-    no_run("a run, a side group the wrong way round", others[0], 7);
-    no_run("a run, job 0 twice", others[1], 7);
-    no_run("a run, a byte too many", others[2], 8);
-
+    /* 40 + 16 + 24 hours */
+    runs("a run, DESK.md's record", hull, sizeof hull - 1, 80, JOBS(0, 1, 3));
     sheet_runs("a run, one job of no hours", "1\n0\n", 0, JOBS(0));
     sheet_runs("a run, one job", "1\n4095\n", 4095, JOBS(0));
     sheet_runs("a run, job 1 before job 0", "2\n4095\n4094\n1 0\n", 8189, JOBS(1, 0));
@@ -301,6 +355,87 @@ static void longest_runs(void)
     sheet_runs("a run, the deepest tree", sheet, 262016, 65, jobs);
 }
 
+/* The sheet's record has so many gangs, job i of `most` - i hours in the gang that the list has. */
+static void sheet_listed(const char *name, unsigned count, const uint8_t *gangs)
+{
+    uint32_t hours[ORDERSHEET_JOBS] = {0};
+    for (unsigned job = 0; job < ORDERSHEET_JOBS; job++)
+        hours[gangs[job]] += most - job;
+    sheet_gangs(name, sheet, count, hours, ORDERSHEET_JOBS, gangs);
+}
+
+static void fewest_gangs(void)
+{
+    check("ordersheet_gang_plan", "a plan has not 656 bytes", sizeof(ordersheet_gang_plan) == 656);
+
+    /* 40 + 16 + 24, 16 and 8 hours */
+    parted("gangs, DESK.md's record", hull, sizeof hull - 1, HOURS(80, 16, 8), JOBS(0, 0, 1, 0, 2));
+
+    sheet_gangs("gangs, one job of no hours", "1\n0\n", HOURS(0), JOBS(0));
+    sheet_gangs("gangs, one job", "1\n4095\n", HOURS(4095), JOBS(0));
+    sheet_gangs("gangs, job 1 before job 0", "2\n4095\n4094\n1 0\n", HOURS(8189), JOBS(0, 0));
+    sheet_gangs("gangs, a chain", "3\n3\n0\n4\n0 1\n1 2\n", HOURS(7), JOBS(0, 0, 0));
+    sheet_gangs("gangs, a side group", "3\n4\n6\n5\n", HOURS(4, 6, 5), JOBS(0, 1, 2));
+    sheet_gangs("gangs, no hours in a side group", "3\n0\n0\n0\n", HOURS(0, 0, 0), JOBS(0, 1, 2));
+    sheet_gangs("gangs, a job ahead of a chain", "3\n7\n3\n5\n1 2\n", HOURS(7, 8), JOBS(0, 1, 1));
+    sheet_gangs("gangs, a chain ahead of a job", "3\n3\n8\n4\n0 2\n", HOURS(7, 8), JOBS(0, 1, 0));
+    /* 0 and 1 before 2, 3 and 4: 1 + 4, 2 + 8 and 16 hours; then 0, 1 and 2 before 3 and 4: 1 + 8, 2 + 16 and 4 */
+    sheet_gangs("gangs, two before three", "5\n1\n2\n4\n8\n16\n0 2\n0 3\n0 4\n1 2\n1 3\n1 4\n", HOURS(5, 10, 16), JOBS(0, 1, 0, 1, 2));
+    sheet_gangs("gangs, three before two", "5\n1\n2\n4\n8\n16\n0 3\n0 4\n1 3\n1 4\n2 3\n2 4\n", HOURS(9, 18, 4), JOBS(0, 1, 2, 0, 1));
+    /* 0; beside it 1 and 2 before 3, of two gangs, the first numbered 1; beside both 4: 1, 2 + 8, 4 and 16 hours */
+    sheet_gangs("gangs, a chain that ends narrow", "5\n1\n2\n4\n8\n16\n1 3\n2 3\n", HOURS(1, 10, 4, 16), JOBS(0, 1, 2, 1, 3));
+    /* 5 before 3 and 0; 3 before 1, and 0 free of both; then 2; 4 beside all of it: 9 + 7 + 1, 2 + 6 and 17 hours */
+    sheet_gangs("gangs, groups in groups", "6\n7\n6\n1\n2\n17\n9\n5 3\n5 0\n3 1\n1 2\n0 2\n", HOURS(17, 8, 17), JOBS(0, 1, 0, 1, 2, 0));
+
+    static const uint8_t zeros[ORDERSHEET_JOBS];
+    length = (size_t)sprintf(sheet, "%d\n", ORDERSHEET_JOBS);
+    for (unsigned job = 0; job < ORDERSHEET_JOBS; job++)
+        length += (size_t)sprintf(sheet + length, "%d\n", ORDERSHEET_HOURS);
+    for (unsigned job = 1; job < ORDERSHEET_JOBS; job++)
+        order(job, job - 1);
+    sheet_gangs("gangs, the most hours", sheet, HOURS(ORDERSHEET_JOBS * ORDERSHEET_HOURS), ORDERSHEET_JOBS, zeros);
+
+    uint8_t gangs[ORDERSHEET_JOBS];
+    start(ORDERSHEET_JOBS);
+    for (unsigned job = 0; job < ORDERSHEET_JOBS; job++)
+        gangs[job] = (uint8_t)job;
+    sheet_listed("gangs, the most", 128, gangs);
+
+    /* jobs 0 to 63, and again from gang 0 on jobs 64 to 127 */
+    start(ORDERSHEET_JOBS);
+    for (unsigned job = 0; job < ORDERSHEET_JOBS; job++)
+        gangs[job] = (uint8_t)(job % 64);
+    for (unsigned u = 0; u < 64; u++)
+        for (unsigned v = 64; v < 128; v++)
+            order(u, v);
+    sheet_listed("gangs, 64 jobs before 64", 64, gangs);
+
+    /* The deepest trees. Each even job before all later ones: 0 and 1 in gang 0, 2 and 3 in gang 1. */
+    start(ORDERSHEET_JOBS);
+    for (unsigned u = 0; u < 128; u++) {
+        gangs[u] = (uint8_t)(u / 2);
+        for (unsigned v = u + 1; v < 128 && u % 2 == 0; v++)
+            order(u, v);
+    }
+    sheet_listed("gangs, the deepest tree", 64, gangs);
+    /* Each odd job before all later ones: 0 in gang 0, 1 and 2 in gang 1, 3 and 4 in gang 2. */
+    start(ORDERSHEET_JOBS);
+    for (unsigned u = 0; u < 128; u++) {
+        gangs[u] = (uint8_t)((u + 1) / 2);
+        for (unsigned v = u + 1; v < 128 && u % 2 == 1; v++)
+            order(u, v);
+    }
+    sheet_listed("gangs, the deepest tree from a side group on", 65, gangs);
+    /* Each odd job after all smaller ones: it is in gang 0, as job 0 is; 2 in gang 1, 4 in gang 2. */
+    start(ORDERSHEET_JOBS);
+    for (unsigned v = 0; v < 128; v++) {
+        gangs[v] = (uint8_t)(v % 2 == 1 ? 0 : v / 2);
+        for (unsigned u = 0; u < v && v % 2 == 1; u++)
+            order(u, v);
+    }
+    sheet_listed("gangs, the deepest tree by first children", 64, gangs);
+}
+
 /* Lengths of 0 with no area, and lengths of more than 32 bits. */
 static void any_length(void)
 {
@@ -311,7 +446,7 @@ static void any_length(void)
     is("no area for orders, and none", analyse((const uint8_t *)one, sizeof one - 1, bytes, 4, NULL, 0), 0, 4, 0, 0, 0);
     is("no area for orders, and none to read", reread(bytes, 4, NULL, 0), 0, 4, 0, 0, 0);
     is("no record", reread(NULL, 0, NULL, 0), 11, 0, 0, 0, 0);
-    no_run("no record for a run", NULL, 0);
+    no_answer("no record for a question", NULL, 0);
 
     /* Only the first page can be read or written. */
     size_t long_room = (size_t)1 << 32;
@@ -320,7 +455,7 @@ static void any_length(void)
     if (area == MAP_FAILED)
         return;
     is("2^32 + 2 bytes as a record", reread(area, long_room + 2, NULL, 0), 11, 0, 0, 0, 0);
-    no_run("2^32 + 2 bytes for a run", area, long_room + 2);
+    no_answer("2^32 + 2 bytes for a question", area, long_room + 2);
     memcpy(area, one, sizeof one - 1);
     is("a sheet of 2^32 + 2 bytes", analyse(area, long_room + 2, bytes, 4, NULL, 0), 1, 0, 0, 0, 0);
     is("a record area of 2^32 bytes", analyse((const uint8_t *)one, sizeof one - 1, area, long_room, NULL, 0), 0, 4, 0, 0, 0);
@@ -338,7 +473,9 @@ int main(void)
     longest_record();
     most_orders();
     older();
+    no_records();
     longest_runs();
+    fewest_gangs();
     any_length();
     printf("%u passed, %u failed\n", passed, failed);
     return passed == 0 || failed != 0;

@@ -20,6 +20,7 @@ static uint8_t record[ORDERSHEET_RECORD_AREA], reduced[ORDERSHEET_REDUCED_AREA];
 static size_t bytes;
 static uint64_t answer;
 static ordersheet_run run;
+static ordersheet_gang_plan plan;
 static ucontext_t back, there;
 static size_t most;
 static int wrong;
@@ -34,6 +35,11 @@ static void longest_run(void)
 {
     run = ordersheet_longest_run(record, bytes);
     answer = run.answer;
+}
+static void gangs(void)
+{
+    plan = ordersheet_gangs(record, bytes);
+    answer = plan.answer;
 }
 
 /* The bytes of the stack that a call writes, down to the lowest. */
@@ -76,7 +82,7 @@ static void start(unsigned jobs)
 }
 static void order(unsigned u, unsigned v) { length += (size_t)sprintf(sheet + length, "%u %u%s", u, v, end); }
 
-/* The bytes of the record area, read and for their longest run, both with this answer. */
+/* The bytes of the record area, read, for their longest run and for their gangs, each with this answer. */
 static void offered(const char *name, unsigned number)
 {
     char text[100];
@@ -84,6 +90,8 @@ static void offered(const char *name, unsigned number)
     measure(text, reread, number);
     snprintf(text, sizeof text, "run: %s", name);
     measure(text, longest_run, number);
+    snprintf(text, sizeof text, "gangs: %s", name);
+    measure(text, gangs, number);
 }
 
 /* The sheet, and its record, in full and cut off by a byte. */

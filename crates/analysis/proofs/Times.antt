@@ -1,7 +1,7 @@
 -- Hours in an array with an entry for each of 128 jobs.
-use Prim.Native.Nat.{ℕ, zero, suc, _+_, _-_, _^_, _≤_, _<_}
+use Prim.Native.Nat.{ℕ, suc, _+_, _-_, _^_, _≤_, _<_}
 use mathlib.Core.Path.{_≡_, refl, sym, ap, _∙_}
-use mathlib.Core.List.{List, [], _∷_, _++_}
+use mathlib.Core.List.{List, _∷_, _++_}
 use mathlib.Core.Bool.{Bool, true, false}
 use mathlib.Core.Option.{Option, none, some}
 use native.Mathlib.Decide.{decLt}
@@ -15,8 +15,7 @@ use Rattle.poset.specs.Tree.{Tree}
 use Rattle.relation.specs.Arcs.{placeFrom, place}
 use Rattle.record.specs.Bits.{AllBelow, bits, bytesOf}
 use Rattle.record.specs.Layout.{hoursBits, mostHours, layout}
-use Rattle.record.proofs.Below.{below-nil, below-cons, below-append}
-use Rattle.record.proofs.Entries.{tree-agree}
+use Rattle.record.proofs.Entries.{entry-padded, tree-agree}
 use Rattle.writer.specs.Written.{written}
 use Rattle.writer.proofs.Shaping.{drop-replicate}
 use Rattle.analysis.proofs.Places.{place-none}
@@ -71,18 +70,6 @@ large-below hours e h m =
 
 -- An array with an entry for each job.
 
--- zeros after a list change no entry
-
-zero-entry : (k j : ℕ) → getD {A = ℕ} (replicate k 0) j 0 ≡ 0
-zero-entry zero j = refl
-zero-entry (suc k) zero = refl
-zero-entry (suc k) (suc j) = zero-entry k j
-
-pub entry-padded : (xs : List ℕ) (k j : ℕ) → getD (xs ++ replicate k 0) j 0 ≡ getD xs j 0
-entry-padded [] k j = zero-entry k j
-entry-padded (x ∷ xs) k zero = refl
-entry-padded (x ∷ xs) k (suc j) = entry-padded xs k j
-
 overlay-padded : (hours : List ℕ) → overlay hours (replicate 128 0) ≡ padded hours
 unfolding overlay
 overlay-padded hours = ap (λ (l : List ℕ). hours ++ l) (drop-replicate (length hours) 128)
@@ -103,10 +90,3 @@ layout-padded n hours t =
 pub written-padded : (n : ℕ) (hours : List ℕ) (o : Option Tree) → written n (padded hours) o ≡ written n hours o
 written-padded n hours none = refl
 written-padded n hours (some t) = rw (layout-padded n hours t)
-
-zeros-below : (m k : ℕ) → 0 < m → AllBelow m (replicate k 0)
-zeros-below m zero l = below-nil
-zeros-below m (suc k) l = below-cons l (zeros-below m k l)
-
-pub padded-below : (hours : List ℕ) → AllBelow (2 ^ hoursBits) hours → AllBelow (2 ^ hoursBits) (padded hours)
-padded-below hours h = below-append h (zeros-below (2 ^ hoursBits) (128 - length hours) (omega arith))

@@ -1,44 +1,17 @@
--- Sums over the numbers below n, and how many of them pass a test.
+-- How many of the numbers below n pass a test, and how many pairs of them.
 use Prim.Native.Nat.{ℕ, zero, suc, _+_, _≤_, _<_}
-use native.Mathlib.Nat.{eq-or-lt-of-le}
-use native.Mathlib.Numerals.{add-one}
 use native.Mathlib.Omega.{arith}
-use mathlib.Core.Path.{_≡_, refl, sym, ap, _∙_}
-use mathlib.Core.List.{List, [], _∷_, map, List·Memᴰ, List·Memᴰ·head, List·Memᴰ·tail}
+use mathlib.Core.Path.{_≡_, sym, ap, _∙_}
+use mathlib.Core.List.{List, map}
 use mathlib.Core.Bool.{Bool, true, false}
 use mathlib.Core.Logic.{⊎-elim}
 use lib.ListN.{length, length-map}
 use lib.Dec.{eqb}
-use Rattle.poset.specs.Lists.{exists, sum, keep, below, upFrom}
+use Rattle.poset.specs.Lists.{exists, sum, keep, below}
 use Rattle.poset.specs.Order.{Arc, Rel, pairsOf}
 use Rattle.poset.proofs.Laws.{decided, false-unless, eqb-true, eqb-same, any-hit, any-found, below-mem, mem-below, keep-agree}
-use Rattle.poset.proofs.Sums.{bit, sum-gap, sum-append, sum-zero, length-keep, length-keep-le, length-flatMap, length-below}
-use Rattle.relation.proofs.Lists.{keep-none, keep-fewer, below-add}
-
-pub sum-agree {ℓ} : {A : Type ℓ} (f g : A → ℕ) (xs : List A) → ((x : A) → List·Memᴰ x xs → f x ≡ g x) → sum f xs ≡ sum g xs
-sum-agree f g [] h = refl
-sum-agree f g (x ∷ xs) h = omega (arith, h x (List·Memᴰ·head refl), sum-agree f g xs (λ y m. h y (List·Memᴰ·tail m)))
-
-pub sum-next : (f : ℕ → ℕ) (n : ℕ) → sum f (below (n + 1)) ≡ sum f (below n) + f n
-unfolding upFrom
-sum-next f n = ap (sum f) (below-add n 1) ∙ sum-append f (below n) (upFrom n 1) ∙ omega arith
-
--- two functions that agree but at x have sums that differ as they do at x
-pub sum-but : (f g : ℕ → ℕ) (n x : ℕ) → x < n → ((u : ℕ) → (u ≡ x → ⊥) → f u ≡ g u) → sum f (below n) + g x ≡ sum g (below n) + f x
-sum-but f g zero x l h = absurd (omega arith)
-sum-but f g (suc n) x l h =
-    let e : n + 1 ≡ suc n = add-one n in
-    rw (← e) (⊎-elim
-    (λ (d : x ≡ n). omega (
-      arith,
-      sum-next f n,
-      sum-next g n,
-      ap f d,
-      ap g d,
-      sum-agree f g (below n) (λ u m. h u (λ c. omega (arith, mem-below n m))),
-    ))
-    (λ (d : x < n). omega (arith, sum-next f n, sum-next g n, h n (λ c. omega arith), sum-but f g n x d h))
-    (eq-or-lt-of-le (omega arith)))
+use Rattle.poset.proofs.Sums.{bit, sum-gap, sum-agree, sum-zero, sum-next, sum-but, length-keep, length-keep-le, length-flatMap, length-below}
+use Rattle.relation.proofs.Lists.{keep-none, keep-fewer}
 
 module _ (p : ℕ → Bool) (n : ℕ) where
   -- with n itself one more, if it passes

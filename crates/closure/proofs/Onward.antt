@@ -16,7 +16,7 @@ use Rattle.poset.proofs.Laws.{decided, clash, false-unless, and-left, and-right
 use Rattle.poset.proofs.Laws.{any-hit, any-found, any-miss, below-mem, keep-agree, found-or-none}
 use Rattle.poset.proofs.Closure.{via-base, via-trans, via-ind}
 use Rattle.poset.proofs.Searches.{first-on-cycle-none}
-use Rattle.poset.proofs.Sums.{sum-le, sum-zero, sum-const, length-below}
+use Rattle.poset.proofs.Sums.{sum-le, sum-agree, sum-zero, sum-const, sum-but, length-below}
 use Rattle.relation.specs.Table.{has, holds, members}
 use Rattle.relation.proofs.Lists.{keep-none, and-true, and-false}
 use Rattle.relation.proofs.Sets.{members-below}
@@ -24,7 +24,7 @@ use Rattle.relation.proofs.Tables.{row-here, row-there}
 use Rattle.relation.proofs.Chain.{via-inside}
 use Rattle.closure.specs.Joins.{passJoins, joinCount}
 use Rattle.closure.specs.Rows.{joinsBut, Rows, Cyclic}
-use Rattle.closure.proofs.Counting.{sum-agree, sum-but, keep-small, pairs-count}
+use Rattle.closure.proofs.Counting.{keep-small, pairs-count}
 
 module _ (n : ℕ) (r : Rel) (inside : (u v : ℕ) → r u v ≡ true → (u < n) × (v < n)) where
   -- an arc, or an arc and a run on from its end

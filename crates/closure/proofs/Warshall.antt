@@ -10,14 +10,14 @@ use lib.ListN.{length, getD, replicate}
 use Rattle.poset.specs.Lists.{exists, keep, below, sum, upFrom}
 use Rattle.poset.specs.Order.{Rel, via}
 use Rattle.poset.proofs.Laws.{decided, clash, false-unless, any-hit, any-found, any-none, keep-agree, below-mem}
-use Rattle.poset.proofs.Sums.{sum-le, sum-const, length-below}
+use Rattle.poset.proofs.Sums.{sum-le, sum-const, sum-next, length-below}
 use Rattle.poset.proofs.Closure.{via-step, via-ind}
 use Rattle.relation.specs.Table.{bit, has, holds}
 use Rattle.closure.specs.Columns.{columns, Joins}
 use Rattle.closure.specs.Joins.{joinsAt, passJoins}
 use Rattle.relation.proofs.Lists.{and-false, or-false, keep-none, any-next}
 use Rattle.relation.proofs.Sets.{has-none, job-ind}
-use Rattle.closure.proofs.Counting.{sum-next, keep-small}
+use Rattle.closure.proofs.Counting.{keep-small}
 use Rattle.closure.proofs.Columns.{column-low, column-high, column-beyond, tally}
 use Rattle.relation.proofs.Tables.{has-blank}
 use Rattle.relation.proofs.Chain.{via-inside}

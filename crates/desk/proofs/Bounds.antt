@@ -2,7 +2,7 @@
 use Prim.Native.Nat.{ℕ, _≤_, _<_}
 use mathlib.Core.Path.{_≡_, refl, ap}
 use mathlib.Core.List.{List, _∷_}
-use mathlib.Core.Logic.{inr, ⊎-elim}
+use mathlib.Core.Logic.{_⊎_, inl, inr, ⊎-elim}
 use native.Mathlib.Decide.{ℕ-discrete}
 use native.Mathlib.Omega.{arith}
 use lib.ListN.{length, length-append}
@@ -14,7 +14,7 @@ use Rattle.record.specs.Layout.{layout}
 use Rattle.record.proofs.Theorems.{layout-length}
 use Rattle.relation.specs.Arcs.{pairs}
 use Rattle.sheet.proofs.Theorems.{scan-place}
-use Rattle.analysis.specs.Answer.{answer}
+use Rattle.analysis.specs.Answer.{Answer, answer}
 use Rattle.analysis.specs.Outcome.{Rooms, Outcome, refuse, accept, readBack, sheetOutcome, pairOutcome, recordOutcome}
 use Rattle.analysis.specs.Claims.{FirstAt}
 use Rattle.analysis.proofs.Fates.{run-below, all-within, clear-count, clear-strict}
@@ -22,7 +22,9 @@ use Rattle.analysis.proofs.Fates.{Fate, miscounted, many, untimed, overtime, ou
 use Rattle.analysis.proofs.Inputs.{SheetFate, oversize, misformed, formed, sheet-fate}
 use Rattle.analysis.proofs.Inputs.{PairFate, odd, even, pair-fate, RecordFate, misspelt, broad, read, record-fate}
 use Rattle.longest.specs.Outcome.{runOutcome}
-use Rattle.longest.proofs.Records.{noRun, treeRun, run-either}
+use Rattle.longest.proofs.Records.{run-verdict}
+use Rattle.gangs.specs.Outcome.{gangOutcome}
+use Rattle.gangs.proofs.Records.{gangs-verdict}
 use Rattle.desk.proofs.Packing.{Narrow}
 
 -- a refusal that names one place at most
@@ -118,10 +120,15 @@ record-told room bytes (read {n = n} {t = t} {hours = hours} r l) =
 pub record-narrow : (room : ℕ) (bytes : List ℕ) → AllBelow 256 bytes → Narrow (recordOutcome room bytes .verdict)
 record-narrow room bytes below = record-told room bytes (record-fate room bytes below)
 
-pub run-narrow : (bytes : List ℕ) → Narrow (runOutcome bytes .verdict)
+-- questions to a record: 0 or 11, and no place
+
+answer-narrow : (a : Answer) → (a ≡ answer 0 0 0 0 0) ⊎ (a ≡ answer 11 0 0 0 0) → Narrow a
 unfolding refuse
-run-narrow bytes =
-    ⊎-elim
-    (λ (h : (t : Tree) × (hours : List ℕ) × (runOutcome bytes ≡ treeRun t hours)). rw (h .2) (one-place 0 0 (omega arith) (omega arith)))
-    (λ (h : runOutcome bytes ≡ noRun). rw h (one-place 11 0 (omega arith) (omega arith)))
-    (run-either bytes)
+answer-narrow a (inl accepted) = rw accepted (one-place 0 0 (omega arith) (omega arith))
+answer-narrow a (inr refused) = rw refused (one-place 11 0 (omega arith) (omega arith))
+
+pub run-narrow : (bytes : List ℕ) → Narrow (runOutcome bytes .verdict)
+run-narrow bytes = answer-narrow (runOutcome bytes .verdict) (run-verdict bytes)
+
+pub gangs-narrow : (bytes : List ℕ) → Narrow (gangOutcome bytes .verdict)
+gangs-narrow bytes = answer-narrow (gangOutcome bytes .verdict) (gangs-verdict bytes)

@@ -1,4 +1,4 @@
--- What an analysis gives, told as one number, and a longest run.
+-- What an analysis gives, told as one number, a longest run, and gangs.
 use Prim.Native.Nat.{ℕ}
 use mathlib.Core.Path.{_≡_, ap, _∙_}
 use mathlib.Core.List.{List}
@@ -8,9 +8,11 @@ use Rattle.analysis.specs.Outcome.{Outcome}
 use Rattle.analysis.specs.Result.{answerOf, Gives}
 use Rattle.analysis.specs.declared.Analysis.{Analysis}
 use Rattle.desk.specs.Packed.{packed, cut}
-use Rattle.longest.specs.Outcome.{RunOutcome, Shows}
+use Rattle.longest.specs.Outcome.{RunOutcome, Shows as ShowsRun}
 use Rattle.longest.specs.declared.LongestRun.{LongestRun}
-use Rattle.desk.specs.Told.{Told, RunTold}
+use Rattle.gangs.specs.Outcome.{GangOutcome, Shows as ShowsGangs}
+use Rattle.gangs.specs.declared.GangPlan.{GangPlan}
+use Rattle.desk.specs.Told.{Told, RunTold, GangsTold}
 use Rattle.desk.proofs.Packing.{Narrow, cut-narrow}
 
 -- an answer read from its number and places in a row
@@ -35,11 +37,20 @@ gives-told g w h = record {
   arcs-are = g .arcs-are;
 }
 
-pub shows-told : {o : RunOutcome} {a : LongestRun} {r : ℕ} → Shows o a → Narrow (o .verdict) → r ≡ packed (cut (answerOf (a .verdict)))
+pub tells-run : {o : RunOutcome} {a : LongestRun} {r : ℕ} → ShowsRun o a → Narrow (o .verdict) → r ≡ packed (cut (answerOf (a .verdict)))
     → RunTold o (record { answer = r; total = a .total; count = a .count; jobs = a .jobs })
-shows-told s w h = record {
+tells-run s w h = record {
   answers = answer-told (s .answers) w h;
   total-is = s .total-is;
   count-is = s .count-is;
   jobs-are = s .jobs-are;
+}
+
+pub tells-gangs : {o : GangOutcome} {a : GangPlan} {r : ℕ} → ShowsGangs o a → Narrow (o .verdict) → r ≡ packed (cut (answerOf (a .verdict)))
+    → GangsTold o (record { answer = r; count = a .count; hours = a .hours; gangs = a .gangs })
+tells-gangs s w h = record {
+  answers = answer-told (s .answers) w h;
+  count-is = s .count-is;
+  hours-are = s .hours-are;
+  gangs-are = s .gangs-are;
 }

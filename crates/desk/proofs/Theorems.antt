@@ -5,8 +5,9 @@ use mathlib.Core.List.{List}
 use Rattle.record.specs.Bits.{AllBelow}
 use Rattle.analysis.specs.Outcome.{Rooms, sheetOutcome, recordOutcome}
 use Rattle.longest.specs.Outcome.{runOutcome}
+use Rattle.gangs.specs.Outcome.{gangOutcome}
 use Rattle.desk.specs.Packed.{packed, unpacked}
-use Rattle.desk.proofs.Bounds.{sheet-narrow, record-narrow, run-narrow}
+use Rattle.desk.proofs.Bounds.{sheet-narrow, record-narrow, run-narrow, gangs-narrow}
 use Rattle.desk.proofs.Packing.{unpacked-packed}
 
 pub unpacked-sheet : (rooms : Rooms) (s : List ℕ) → unpacked (packed (sheetOutcome rooms s .verdict)) ≡ sheetOutcome rooms s .verdict
@@ -18,3 +19,6 @@ unpacked-record room bytes below = unpacked-packed (recordOutcome room bytes .ve
 
 pub unpacked-run : (bytes : List ℕ) → unpacked (packed (runOutcome bytes .verdict)) ≡ runOutcome bytes .verdict
 unpacked-run bytes = unpacked-packed (runOutcome bytes .verdict) (run-narrow bytes)
+
+pub unpacked-gangs : (bytes : List ℕ) → unpacked (packed (gangOutcome bytes .verdict)) ≡ gangOutcome bytes .verdict
+unpacked-gangs bytes = unpacked-packed (gangOutcome bytes .verdict) (gangs-narrow bytes)

@@ -6,7 +6,9 @@ use lib.ListN.{length}
 use Rattle.poset.specs.Areas.{overlay, padded, arcBytes}
 use Rattle.analysis.specs.Outcome.{Outcome}
 use Rattle.longest.specs.Outcome.{RunOutcome}
+use Rattle.gangs.specs.Outcome.{GangOutcome}
 use Rattle.desk.specs.Packed.{packed}
+use Rattle.desk.specs.declared.Plan.{Plan}
 use Rattle.desk.specs.declared.Run.{Run}
 
 -- the answer as one number, and both areas after the call
@@ -21,3 +23,10 @@ pub record RunTold (o : RunOutcome) (r : Run) : Type 0 where
   pub total-is : r .total ≡ o .total
   pub count-is : r .count ≡ length (o .jobs)
   pub jobs-are : r .jobs ≡ padded (o .jobs)
+
+-- the answer as one number, how many gangs, and in the first entries of 128 the hours of each gang and the gang of each job, the others 0
+pub record GangsTold (o : GangOutcome) (r : Plan) : Type 0 where
+  pub answers : r .answer ≡ packed (o .verdict)
+  pub count-is : r .count ≡ o .count
+  pub hours-are : r .hours ≡ padded (o .hours)
+  pub gangs-are : r .gangs ≡ padded (o .gangs)

@@ -6,7 +6,8 @@ ghost use lib.ListN.{length};
 ghost use Rattle.analysis.specs.Outcome.{sheetOutcome, recordOutcome};
 ghost use Rattle.analysis.specs.Result.{rooms};
 ghost use Rattle.longest.specs.Outcome.{runOutcome};
-ghost use Rattle.desk.specs.Told.{Told, RunTold};
+ghost use Rattle.gangs.specs.Outcome.{gangOutcome};
+ghost use Rattle.desk.specs.Told.{Told, RunTold, GangsTold};
 
 // The analysis of a sheet: the record and the reduced orders into the two areas.
 #[no_mangle]
@@ -52,5 +53,31 @@ pub extern "C" fn ordersheet_longest_run(bytes: &[u8]) -> Run
         total: found.total as u64,
         count: found.count as u64,
         jobs,
+    }
+}
+
+// The gangs: the answer, how many there are, the hours of each gang's jobs together, and the gang of each job, then zeros.
+#[repr(C)]
+pub struct Plan {
+    pub answer: u64,
+    pub count: u64,
+    pub hours: [u32; 128],
+    pub gangs: [u8; 128],
+}
+
+// The fewest gangs of a record.
+#[no_mangle]
+pub extern "C" fn ordersheet_gangs(bytes: &[u8]) -> Plan
+    ensures { λ r. ⌜ GangsTold (gangOutcome (now (bytes .entry))) r ⌝ }
+{
+    let plan = gangs::fewest_gangs(bytes);
+    let verdict = plan.verdict;
+    let hours = plan.hours;
+    let gangs = plan.gangs;
+    Plan {
+        answer: answer::packed(verdict),
+        count: plan.count as u64,
+        hours,
+        gangs,
     }
 }

@@ -1,5 +1,3 @@
-pub mod Sums
-pub mod Heaviest
 pub mod Longest
 pub mod Measures
 pub mod Entries

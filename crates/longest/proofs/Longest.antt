@@ -1,6 +1,6 @@
 -- The longest run: a chain of that sum, and no chain has more.
 use Prim.Native.Nat.{ℕ, _+_, _≤_, _<_}
-use mathlib.Core.Path.{_≡_, refl, sym, ap, ap₂}
+use mathlib.Core.Path.{_≡_, refl, sym, ap, ap₂, _∙_}
 use mathlib.Core.List.{List, [], _∷_, _++_, flatMap, List·Memᴰ, List·Memᴰ·not-nil}
 use mathlib.Core.List.{List·Memᴰ·cases-cons, List·Memᴰ·append-cases, append-nil}
 use mathlib.Core.Logic.{⊎-elim}
@@ -9,23 +9,32 @@ use lib.Dec.{ltb}
 use native.Mathlib.Omega.{arith}
 use Rattle.poset.specs.Lists.{sum}
 use Rattle.poset.specs.Order.{Rel}
-use Rattle.poset.specs.Tree.{Kind, series, parallel, Tree, leaf, node, Forest, last, more, Means}
+use Rattle.poset.specs.Tree.{Kind, series, parallel, Tree, leaf, node, Forest, last, more, trees, Means}
 use Rattle.poset.proofs.Laws.{decided, ltb-true}
+use Rattle.poset.proofs.Heaviest.{grown, heaviest, forestHeaviest, Laid, Attained, not-less, attained, laid-distinct, laid-near, not-heavier}
 use Rattle.poset.proofs.Meaning.{means-fits}
 use Rattle.longest.specs.Chains.{InOrder, empty, next, IsLongest}
-use Rattle.longest.specs.Longest.{WorkRun, joinedRuns, longest, forestLongest, trees, FirstGreatest}
-use Rattle.longest.proofs.Heaviest.{heaviest, forestHeaviest, Laid, Attained, not-less, attained, laid-distinct, laid-near, not-heavier}
+use Rattle.longest.specs.Longest.{WorkRun, joinedRuns, longest, forestLongest, FirstGreatest}
+
+joined-grown : (k : Kind) (a b : WorkRun) → joinedRuns k a b ≡ grown series k a b
+unfolding joinedRuns
+joined-grown series a b = refl
+joined-grown parallel a b = refl
 
 mutual
   unfolding longest
 
   longest-heaviest : (hours : ℕ → ℕ) (t : Tree) → longest hours t ≡ heaviest series hours t
   longest-heaviest hours (leaf j) = refl
-  longest-heaviest hours (node k t f) = ap₂ (joinedRuns k) (longest-heaviest hours t) (forest-heaviest hours k f)
+  longest-heaviest hours (node k t f) =
+      ap₂ (joinedRuns k) (longest-heaviest hours t) (forest-heaviest hours k f)
+      ∙ joined-grown k (heaviest series hours t) (forestHeaviest series hours k f)
 
   forest-heaviest : (hours : ℕ → ℕ) (k : Kind) (f : Forest) → forestLongest hours k f ≡ forestHeaviest series hours k f
   forest-heaviest hours k (last t) = longest-heaviest hours t
-  forest-heaviest hours k (more t f) = ap₂ (joinedRuns k) (longest-heaviest hours t) (forest-heaviest hours k f)
+  forest-heaviest hours k (more t f) =
+      ap₂ (joinedRuns k) (longest-heaviest hours t) (forest-heaviest hours k f)
+      ∙ joined-grown k (heaviest series hours t) (forestHeaviest series hours k f)
 
 laid-in-order : (r : Rel) (xs : List ℕ) → Laid series r xs → InOrder r xs
 laid-in-order r [] l = empty

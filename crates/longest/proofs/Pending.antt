@@ -6,14 +6,15 @@ use native.Mathlib.Omega.{arith}
 use lib.ListN.{length, getD, replicate}
 use lib.Seq.{getD-take}
 use Rattle.poset.specs.Lists.{occurrences}
-use Rattle.poset.specs.Tree.{Tree, leaf, node, Forest, last, more, leaves, forestLeaves}
+use Rattle.poset.specs.Tree.{Tree, leaf, node, Forest, last, more, leaves, forestLeaves, trees}
 use Rattle.poset.proofs.Laws.{count-append, flatMap-append}
-use Rattle.record.proofs.Sizes.{Small, small-left, small-right}
+use Rattle.poset.proofs.Shape.{trees-leaves}
+use Rattle.record.proofs.Sizes.{Small, small-right}
 use Rattle.record.proofs.Tokens.{tokens-few}
 use Rattle.record.specs.Tokens.{tokens, forestTokens, nodeRoom}
-use Rattle.longest.specs.Longest.{longest, trees}
-use Rattle.longest.specs.Stack.{Step, one-leaf, one-group, Fits, Runs, runs, Stacked, Listed, Found}
-use Rattle.longest.proofs.Stacking.{trees-leaves}
+use Rattle.reader.specs.Nodes.{Listed}
+use Rattle.longest.specs.Longest.{longest}
+use Rattle.longest.specs.Stack.{Step, one-leaf, one-group, Fits, Runs, runs, Stacked, Found}
 
 -- nodes, and the trees in a row that they are
 pub data Spells : List ℕ → List Tree → Type 0 where
@@ -85,12 +86,17 @@ module _ (t : Tree) (list : List ℕ) (count : ℕ) (l : Listed t list count) wh
       (subst (λ (n : ℕ). Step (getD (tokens t) (i - 1) 0) (pending n (spells t)) (pending (i - 1) (spells t))) next
       (step-at (i - 1) (spells t) (omega (arith, l .number))))
 
+  whole-fits : Fits (t ∷ [])
+  unfolding flatMap
+  whole-fits =
+      let alone : leaves t ≡ flatMap leaves (t ∷ []) = sym (append-nil (leaves t)) in
+      record { once = λ u. subst (λ (js : List ℕ). occurrences u js ≤ 1) alone (l .once u); small = subst Small alone (l .small) }
+
   pub row-fits : (i : ℕ) → Fits (pending i (spells t))
-  row-fits i = fits-at i (spells t) (l .fits)
+  row-fits i = fits-at i (spells t) whole-fits
 
   pub nodes-few : count ≤ nodeRoom
-  unfolding flatMap
-  nodes-few = omega (arith, l .number, tokens-few t (small-left (leaves t) [] (l .fits .small)))
+  nodes-few = omega (arith, l .number, tokens-few t (l .small))
 
   pub row-end : (next : List ℕ) → length next ≡ 128 → (hours : ℕ → ℕ)
       → Stacked hours (pending count (spells t)) 128 (runs (replicate 128 0) (replicate 128 0) (replicate 128 0) next)

@@ -1,67 +1,40 @@
--- What is told of bytes, and of the record that an accepted sheet gets.
+-- What is told of bytes.
 use Prim.Native.Nat.{ℕ, _*_, _≤_}
-use mathlib.Core.Path.{_≡_, ap, subst}
+use mathlib.Core.Path.{_≡_, refl, ap}
 use mathlib.Core.List.{List, []}
-use mathlib.Core.Option.{none, some}
-use mathlib.Core.Logic.{_↔_, _≢_, _⊎_, inl, inr, ⊎-elim}
+use mathlib.Core.Logic.{_⊎_}
 use native.Mathlib.Omega.{arith}
 use Rattle.poset.specs.Order.{Rel}
 use Rattle.poset.specs.Tree.{Tree, Means}
-use Rattle.poset.proofs.Laws.{found-or-none}
-use Rattle.record.specs.Bits.{AllBelow}
 use Rattle.record.specs.Layout.{mostHours, hoursOf, IsRecord}
-use Rattle.record.specs.Decode.{decode}
+use Rattle.record.proofs.Entries.{hours-most}
 use Rattle.record.proofs.Sizes.{length-leaves}
-use Rattle.record.proofs.Theorems.{decode-record, decode-none, layout-below}
 use Rattle.analysis.specs.Answer.{answer}
+use Rattle.analysis.proofs.Asked.{Question, ask-verdict, ask-told}
 use Rattle.longest.specs.Chains.{IsLongest}
 use Rattle.longest.specs.Longest.{longest}
 use Rattle.longest.specs.Outcome.{RunOutcome, runOutcome}
 use Rattle.longest.proofs.Longest.{longest-is}
 use Rattle.longest.proofs.Measures.{run-small}
-use Rattle.longest.proofs.Stacking.{hours-most}
 
--- bytes that are none, and the record of a tree
+-- the question for the longest run
 
-abbrev pub noRun : RunOutcome
+abbrev noRun : RunOutcome
 noRun = record { verdict = answer 11 0 0 0 0; total = 0; jobs = [] }
 
-abbrev pub treeRun : Tree → List ℕ → RunOutcome
-treeRun t hours = let run = longest (hoursOf hours) t in record { verdict = answer 0 0 0 0 0; total = run .0; jobs = run .1 }
+abbrev treeRun : ℕ → Tree → List ℕ → RunOutcome
+treeRun n t hours = let run = longest (hoursOf hours) t in record { verdict = answer 0 0 0 0 0; total = run .0; jobs = run .1 }
 
-none-told : (bytes : List ℕ) → decode bytes ≡ none → runOutcome bytes ≡ noRun
+abbrev pub runs : Question RunOutcome
+runs = record { refused = noRun; told = treeRun; verdict = λ o. o .verdict; refuses = refl; accepts = λ n t hours. refl }
+
+pub run-verdict : (bytes : List ℕ) → (runOutcome bytes .verdict ≡ answer 0 0 0 0 0) ⊎ (runOutcome bytes .verdict ≡ answer 11 0 0 0 0)
 unfolding runOutcome
-none-told bytes e = rw (runOutcome, e)
+run-verdict = ask-verdict runs
 
-some-told : (bytes : List ℕ) (x : ℕ × Tree × List ℕ) → decode bytes ≡ some x → runOutcome bytes ≡ treeRun (x .1) (x .2)
+pub run-told : (bytes : List ℕ) (n : ℕ) (t : Tree) (hours : List ℕ) → IsRecord bytes n t hours → runOutcome bytes ≡ treeRun n t hours
 unfolding runOutcome
-some-told bytes x e = rw (runOutcome, e)
-
-pub run-either : (bytes : List ℕ) → ((t : Tree) × (hours : List ℕ) × (runOutcome bytes ≡ treeRun t hours)) ⊎ (runOutcome bytes ≡ noRun)
-run-either bytes =
-    ⊎-elim
-    (λ (h : (x : ℕ × Tree × List ℕ) × (decode bytes ≡ some x)). inl (h .0 .1, h .0 .2, some-told bytes (h .0) (h .1)))
-    (λ (h : decode bytes ≡ none). inr (none-told bytes h))
-    (found-or-none (decode bytes))
-
-pub run-told : (bytes : List ℕ) (n : ℕ) (t : Tree) (hours : List ℕ) → IsRecord bytes n t hours
-    → runOutcome bytes ≡ treeRun t hours
-run-told bytes n t hours r =
-    some-told bytes (n, t, hours) (decode-record bytes n t hours (subst (AllBelow 256) (r .spelt) (layout-below n hours t)) .1 r)
-
-pub run-refused : (bytes : List ℕ) → AllBelow 256 bytes
-    → (runOutcome bytes .verdict .number ≡ 11) ↔ ((n : ℕ) (t : Tree) (hours : List ℕ) → IsRecord bytes n t hours → ⊥)
-run-refused bytes below = (
-  λ e n t hours r. omega (arith, ap (λ (o : RunOutcome). o .verdict .number) (run-told bytes n t hours r)),
-  λ h. ap (λ (o : RunOutcome). o .verdict .number) (none-told bytes (decode-none bytes below .1 h)),
-)
-
-pub run-empty : (bytes : List ℕ) → runOutcome bytes .verdict .number ≢ 0 → runOutcome bytes ≡ noRun
-run-empty bytes refused =
-    ⊎-elim
-    (λ (h : (t : Tree) × (hours : List ℕ) × (runOutcome bytes ≡ treeRun t hours)). absurd (refused (ap (λ (o : RunOutcome). o .verdict .number) (h .2))))
-    (λ (h : runOutcome bytes ≡ noRun). h)
-    (run-either bytes)
+run-told = ask-told runs
 
 -- the run of a record, in the order that its tree means
 

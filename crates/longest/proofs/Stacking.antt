@@ -1,38 +1,22 @@
 -- One node more on the stack of runs.
-use Prim.Native.Nat.{ℕ, suc, _+_, _-_, _%_, _^_, _≤_, _<_}
+use Prim.Native.Nat.{ℕ, suc, _+_, _-_, _%_, _≤_, _<_}
 use mathlib.Core.Path.{_≡_, refl, ap, subst}
-use mathlib.Core.List.{List, [], _∷_, _++_, map, flatMap, append-nil, List·Memᴰ·head, map-append}
+use mathlib.Core.List.{List, [], _∷_, _++_, map, flatMap, List·Memᴰ·head, map-append}
 use native.Mathlib.Omega.{arith}
 use lib.ListN.{length, set, length-append, length-map}
 use Rattle.poset.specs.Lists.{occurrences}
-use Rattle.poset.specs.Tree.{Kind, series, parallel, Tree, leaf, node, Forest, last, more, leaves, forestLeaves}
+use Rattle.poset.specs.Tree.{Kind, series, parallel, Tree, leaf, node, Forest, last, more, leaves, forestLeaves, trees}
 use Rattle.poset.proofs.Laws.{count-append, mem-count, count-mem}
-use Rattle.record.specs.Bits.{AllBelow}
-use Rattle.record.specs.Layout.{hoursBits, mostHours, kindBit, moreChildren, hoursOf}
-use Rattle.record.proofs.Entries.{entry-below}
-use Rattle.record.proofs.Sizes.{kind-below, groups-lt, small-left}
+use Rattle.poset.proofs.Shape.{trees-leaves}
+use Rattle.record.specs.Layout.{mostHours, kindBit, moreChildren}
+use Rattle.record.proofs.Sizes.{kind-below, trees-length, groups-lt, small-left}
 use Rattle.record.proofs.Tokens.{children-few}
 use Rattle.reader.specs.Parts.{alone}
 use Rattle.record.specs.Tokens.{groupToken}
-use Rattle.longest.specs.Longest.{WorkRun, joinedRuns, longest, trees}
+use Rattle.longest.specs.Longest.{WorkRun, joinedRuns, longest}
 use Rattle.longest.specs.Stack.{Step, one-leaf, one-group, Fits, Runs, runs, Entry, Entries, runOf, Beside, Joined, Stacked}
 use Rattle.longest.proofs.Measures.{runs-small, runs-of-leaves}
 use Rattle.longest.proofs.Entries.{entries-kept, entries-append, entry-put}
-
--- the trees of a forest
-
-pub trees-length : (f : Forest) → length (trees f) ≡ moreChildren f
-unfolding trees moreChildren
-trees-length (last t) = refl
-trees-length (more t f) = ap suc (trees-length f)
-
-pub trees-leaves : (f : Forest) → flatMap leaves (trees f) ≡ forestLeaves f
-unfolding trees leaves flatMap
-trees-leaves (last t) = append-nil (leaves t)
-trees-leaves (more t f) = ap (λ (l : List ℕ). leaves t ++ l) (trees-leaves f)
-
-pub hours-most : (hours : List ℕ) → AllBelow (2 ^ hoursBits) hours → (u : ℕ) → hoursOf hours u ≤ mostHours
-hours-most hours low u = omega (arith, entry-below hours u (2 ^ hoursBits) (omega arith) low)
 
 -- the run of a group is that of its children's runs
 group-run : (hours : ℕ → ℕ) (k : Kind) (t : Tree) (f : Forest) → runOf k (map (longest hours) (t ∷ trees f)) ≡ longest hours (node k t f)

@@ -5,19 +5,21 @@ use mathlib.Core.List.{List, [], map, flatMap}
 use mathlib.Core.Logic.{_↔_, _≢_}
 use Rattle.poset.specs.Lists.{sum}
 use Rattle.poset.specs.Order.{Arc, Rel, before}
-use Rattle.poset.specs.Tree.{series, parallel, Tree, node, Forest, more, precedes, Means}
+use Rattle.poset.specs.Tree.{series, parallel, Tree, node, Forest, more, trees, precedes, Means}
 use Rattle.relation.specs.Arcs.{pairs}
 use Rattle.record.specs.Bits.{AllBelow}
 use Rattle.record.specs.Layout.{mostHours, hoursOf, IsRecord}
 use Rattle.sheet.specs.Text.{LineForm}
 use Rattle.analysis.specs.Answer.{answer}
 use Rattle.analysis.specs.Outcome.{Rooms, sheetOutcome, pairOutcome}
+use Rattle.analysis.proofs.Asked.{ask-refused, ask-empty, ask-unyielded}
 use Rattle.analysis.proofs.Demands.{yield-sheet, yield-pairs}
 use Rattle.longest.specs.Chains.{IsLongest}
-use Rattle.longest.specs.Longest.{longest, trees, FirstGreatest}
+use Rattle.longest.specs.Longest.{longest, FirstGreatest}
 use Rattle.longest.specs.Outcome.{runOutcome}
 use Rattle.longest.proofs.Longest
 use Rattle.longest.proofs.Records
+use Rattle.longest.proofs.Records.{runs}
 use Rattle.longest.proofs.Sheets
 use Rattle.longest.proofs.Examples
 use Rattle.longest.proofs.Examples.{Example, examples}
@@ -49,11 +51,13 @@ parallel-takes hours t f = Longest.parallel-takes hours (more t f)
 pub run-refused
     : (bytes : List ℕ) → AllBelow 256 bytes
     → (runOutcome bytes .verdict .number ≡ 11) ↔ ((n : ℕ) (t : Tree) (hours : List ℕ) → IsRecord bytes n t hours → ⊥)
-run-refused = Records.run-refused
+unfolding runOutcome
+run-refused = ask-refused runs
 
 pub run-empty
     : (bytes : List ℕ) → runOutcome bytes .verdict .number ≢ 0 → runOutcome bytes ≡ record { verdict = answer 11 0 0 0 0; total = 0; jobs = [] }
-run-empty = Records.run-empty
+unfolding runOutcome
+run-empty = ask-empty runs
 
 pub run-told
     : (bytes : List ℕ) (n : ℕ) (t : Tree) (hours : List ℕ) → IsRecord bytes n t hours
@@ -78,7 +82,8 @@ pub sheet-refused
     : (bytes : List ℕ) → AllBelow 256 bytes
     → (runOutcome bytes .verdict .number ≡ 11)
     ↔ ((rooms : Rooms) (s : List ℕ) → sheetOutcome rooms s .verdict .number ≡ 0 → sheetOutcome rooms s .bytes ≡ bytes → ⊥)
-sheet-refused = Sheets.run-unyielded
+unfolding runOutcome
+sheet-refused = ask-unyielded runs
 
 pub sheet-longest
     : (rooms : Rooms) (s : List ℕ) → sheetOutcome rooms s .verdict .number ≡ 0

@@ -25,11 +25,6 @@ unfoldable mutual
   forestLongest hours k (last t) = longest hours t
   forestLongest hours k (more t f) = joinedRuns k (longest hours t) (forestLongest hours k f)
 
--- the trees of a forest from left to right; those of `more t f` are the children of a group of t and f
-unfoldable pub trees : Forest → List Tree
-trees (last t) = t ∷ []
-trees (more t f) = t ∷ trees f
-
 -- c is the first of a list with the greatest total
 pub record FirstGreatest (hours : ℕ → ℕ) (cs : List Tree) (c : Tree) : Type 0 where
   pub ahead : List Tree

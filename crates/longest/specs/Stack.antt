@@ -4,16 +4,16 @@
 use Prim.Native.Nat.{ℕ, suc, _+_, _*_, _≤_, _<_}
 use mathlib.Core.Path.{_≡_}
 use mathlib.Core.List.{List, [], _∷_, _++_, map, flatMap, List·Memᴰ}
-use lib.ListN.{length, getD, take}
+use lib.ListN.{length, getD}
 use Rattle.poset.specs.Lists.{occurrences, sum}
 use Rattle.poset.specs.Areas.{padded}
-use Rattle.poset.specs.Tree.{Kind, Tree, leaf, node, Forest, leaves}
+use Rattle.poset.specs.Tree.{Kind, Tree, leaf, node, Forest, leaves, trees}
 use Rattle.record.specs.Bits.{AllBelow}
 use Rattle.record.specs.Layout.{mostHours, moreChildren}
 use Rattle.record.proofs.Sizes.{Small}
 use Rattle.reader.specs.Parts.{Strand}
-use Rattle.record.specs.Tokens.{groupToken, tokens}
-use Rattle.longest.specs.Longest.{WorkRun, joinedRuns, longest, trees}
+use Rattle.record.specs.Tokens.{groupToken}
+use Rattle.longest.specs.Longest.{WorkRun, joinedRuns, longest}
 use Rattle.longest.specs.declared.stack.Run.{Run}
 use Rattle.longest.specs.declared.showing.Showing.{Showing}
 
@@ -96,12 +96,6 @@ pub record Stacked (hours : ℕ → ℕ) (ts : List Tree) (top : ℕ) (w : Runs)
 
 abbrev pub Stacks : (token : ℕ) (hours : ℕ → ℕ) (top on : ℕ) → Runs → Runs → Type 0
 Stacks token hours top on w v = (ts us : List Tree) → Step token ts us → Fits us → Stacked hours ts top w → Stacked hours us on v
-
--- a tree's nodes in their order
-pub record Listed (t : Tree) (list : List ℕ) (count : ℕ) : Type 0 where
-  pub fits : Fits (t ∷ [])
-  pub number : count ≡ length (tokens t)
-  pub these : take count list ≡ tokens t
 
 -- the run a, by its total, its first and its last job
 pub record Found (a : WorkRun) (next : List ℕ) (r : Run) : Type 0 where

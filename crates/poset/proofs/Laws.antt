@@ -246,6 +246,22 @@ pub mem-below : (n : ℕ) {u : ℕ} → List·Memᴰ u (below n) → u < n
 unfolding below
 mem-below n m = let b = mem-upFrom 0 n m in omega arith
 
+upFrom-add : (k m n : ℕ) → upFrom k (m + n) ≡ upFrom k m ++ upFrom (k + m) n
+unfolding upFrom
+upFrom-add k zero n =
+    let a : 0 + n ≡ n = omega arith in
+    let b : k + 0 ≡ k = omega arith in
+    rw (a, b)
+upFrom-add k (suc m) n =
+    let e : suc m + n ≡ suc (m + n) = omega arith in
+    let d : suc k + m ≡ k + suc m = omega arith in
+    rw (e, ← d) (ap {B = List ℕ} (λ zs. k ∷ zs) (upFrom-add (suc k) m n))
+
+-- the numbers below m + n, from m on
+pub below-add : (m n : ℕ) → below (m + n) ≡ below m ++ upFrom m n
+unfolding below
+below-add m n = let e : 0 + m ≡ m = omega arith in rw (upFrom-add 0 m n, e)
+
 -- equal tests
 
 pub same-test : (a b : Bool) → (a ≡ true → b ≡ true) → (b ≡ true → a ≡ true) → a ≡ b
@@ -283,6 +299,11 @@ module _ {ℓ} {A : Type ℓ} where
   unfolding onlyIf
   only-if-none true a = (λ h. absurd (found-clash refl h), λ h. absurd (clash refl h))
   only-if-none false a = (λ _. refl, λ _. refl)
+
+-- a list around an element of it
+pub mem-split {ℓ} : {A : Type ℓ} {x : A} {xs : List A} → List·Memᴰ x xs → (ahead : List A) × (behind : List A) × (xs ≡ ahead ++ x ∷ behind)
+mem-split (List·Memᴰ·head {xs = xs} e) = ([], xs, ap (λ y. y ∷ xs) (sym e))
+mem-split (List·Memᴰ·tail {x = y} m) = let (ahead, behind, e) = mem-split m in (y ∷ ahead, behind, ap (_∷_ y) e)
 
 -- lists joined end to end
 

@@ -1,12 +1,14 @@
 pub mod Laws
 pub mod Areas
 pub mod Sums
+pub mod Distinct
 pub mod Searches
 pub mod Closure
 pub mod Reduction
 pub mod Bound
 pub mod Standing
 pub mod Shape
+pub mod Heaviest
 pub mod Meaning
 pub mod TreeOrder
 pub mod Ahead

@@ -2,7 +2,8 @@
 -- A group is a first child t and a forest f of the others, and so is a forest of two or more: what holds of one holds of both.
 use Prim.Native.Nat.{ℕ, zero, suc, _+_, _≤_, _<_}
 use mathlib.Core.Path.{_≡_, refl, sym, ap, ap₂, subst, _∙_}
-use mathlib.Core.List.{List, [], _∷_, _++_, List·Memᴰ, List·Memᴰ·head, Memᴰ·append-left, Memᴰ·append-right, List·Memᴰ·append-cases, List·Memᴰ·eq-of-singleton}
+use mathlib.Core.List.{List, [], _∷_, _++_, flatMap, append-nil, List·Memᴰ, List·Memᴰ·head, List·Memᴰ·eq-of-singleton}
+use mathlib.Core.List.{Memᴰ·append-left, Memᴰ·append-right, List·Memᴰ·append-cases}
 use mathlib.Core.Bool.{Bool, true, false, _&&_, _||_, not, cond}
 use mathlib.Core.Logic.{_⊎_, inl, inr, ⊎-elim, _↔_}
 use lib.Dec.{eqb, ltb, T, lt→ltb, ltb→lt}
@@ -10,7 +11,7 @@ use native.Mathlib.Omega.{arith}
 use Rattle.poset.specs.Lists.{member, occurrences}
 use Rattle.poset.specs.Order.{Rel, comparable, incomparable}
 use Rattle.poset.specs.Tree.{Kind, series, parallel, Tree, leaf, node, Forest, last, more}
-use Rattle.poset.specs.Tree.{leaves, forestLeaves, across, precedes, forestPrecedes}
+use Rattle.poset.specs.Tree.{trees, leaves, forestLeaves, across, precedes, forestPrecedes}
 use Rattle.poset.proofs.Standing.{near, other, Stands, isSeries, near-sym, stands-near, stands-apart, stands-differ}
 use Rattle.poset.proofs.Laws.{clash, false-unless, and-left, and-right, and-intro, or-cases, or-left, or-middle, or-last, member-mem, mem-member}
 
@@ -58,6 +59,11 @@ mutual
   pub forestLeaves-in : (f : Forest) {u : ℕ} → List·Memᴰ u (forestLeaves f) → InForest f u
   forestLeaves-in (last t) m = leaves-in t m
   forestLeaves-in (more t f) m = append-in (leaves t) (λ h. leaves-in t h) (λ h. forestLeaves-in f h) m
+
+pub trees-leaves : (f : Forest) → flatMap leaves (trees f) ≡ forestLeaves f
+unfolding trees leaves flatMap
+trees-leaves (last t) = append-nil (leaves t)
+trees-leaves (more t f) = ap (λ (l : List ℕ). leaves t ++ l) (trees-leaves f)
 
 -- a tree holds some job
 pub someIn : (t : Tree) → (u : ℕ) × In t u

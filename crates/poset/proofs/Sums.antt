@@ -5,10 +5,13 @@ use mathlib.Core.List.{List, [], _∷_, _++_, flatMap, List·Memᴰ, List·Mem�
 use mathlib.Core.Bool.{Bool, false, cond}
 use mathlib.Core.Logic.{⊎-elim}
 use native.Mathlib.Decide.{decLe}
+use native.Mathlib.Nat.{eq-or-lt-of-le}
+use native.Mathlib.Numerals.{add-one}
 use native.Mathlib.Omega.{arith}
+use lib.Dec.{eqb}
 use lib.ListN.{length, length-append}
 use Rattle.poset.specs.Lists.{keep, sum, upFrom, below}
-use Rattle.poset.proofs.Laws.{decided, keep-yes, keep-not}
+use Rattle.poset.proofs.Laws.{decided, eqb-same, eqb-differ, keep-yes, keep-not, mem-below, below-add}
 
 -- 1 for a test that passes, 0 for one that fails
 abbrev pub bit : Bool → ℕ
@@ -30,6 +33,10 @@ module _ {ℓ} {A : Type ℓ} where
   sum-zero f [] h = refl
   sum-zero f (x ∷ xs) h = omega (arith, h x (List·Memᴰ·head refl), sum-zero f xs (λ y m. h y (List·Memᴰ·tail m)))
 
+  pub sum-agree : (f g : A → ℕ) (xs : List A) → ((x : A) → List·Memᴰ x xs → f x ≡ g x) → sum f xs ≡ sum g xs
+  sum-agree f g [] h = refl
+  sum-agree f g (x ∷ xs) h = omega (arith, h x (List·Memᴰ·head refl), sum-agree f g xs (λ y m. h y (List·Memᴰ·tail m)))
+
   pub sum-append : (f : A → ℕ) (xs ys : List A) → sum f (xs ++ ys) ≡ sum f xs + sum f ys
   sum-append f [] ys = omega arith
   sum-append f (x ∷ xs) ys = omega (arith, sum-append f xs ys)
@@ -45,6 +52,15 @@ module _ {ℓ} {A : Type ℓ} where
   pub sum-const : (k : ℕ) (xs : List A) → sum (λ x. k) xs ≡ k * length xs
   sum-const k [] = omega arith
   sum-const k (x ∷ xs) = omega (arith, sum-const k xs)
+
+  pub sum-keep : (p : A → Bool) (f : A → ℕ) (xs : List A) → sum f (keep p xs) ≡ sum (λ x. cond (p x) (f x) 0) xs
+  unfolding keep
+  sum-keep p f [] = refl
+  sum-keep p f (x ∷ xs) =
+      ⊎-elim
+      (λ e. rw (keep-yes p x xs e, e) (omega (arith, sum-keep p f xs)))
+      (λ e. rw (keep-not p x xs e, e) (omega (arith, sum-keep p f xs)))
+      (decided (p x))
 
   pub length-keep : (p : A → Bool) (xs : List A) → length (keep p xs) ≡ sum (λ x. bit (p x)) xs
   unfolding keep
@@ -124,3 +140,36 @@ length-upFrom k (suc n) = ap suc (length-upFrom (suc k) n)
 pub length-below : (n : ℕ) → length (below n) ≡ n
 unfolding below
 length-below n = length-upFrom 0 n
+
+-- sums over the numbers below n
+
+pub sum-next : (f : ℕ → ℕ) (n : ℕ) → sum f (below (n + 1)) ≡ sum f (below n) + f n
+unfolding upFrom
+sum-next f n = ap (sum f) (below-add n 1) ∙ sum-append f (below n) (upFrom n 1) ∙ omega arith
+
+-- two functions that agree but at x have sums that differ as they do at x
+pub sum-but : (f g : ℕ → ℕ) (n x : ℕ) → x < n → ((u : ℕ) → (u ≡ x → ⊥) → f u ≡ g u) → sum f (below n) + g x ≡ sum g (below n) + f x
+sum-but f g zero x l h = absurd (omega arith)
+sum-but f g (suc n) x l h =
+    let e : n + 1 ≡ suc n = add-one n in
+    rw (← e) (⊎-elim
+    (λ (d : x ≡ n). omega (
+      arith,
+      sum-next f n,
+      sum-next g n,
+      ap f d,
+      ap g d,
+      sum-agree f g (below n) (λ u m. h u (λ c. omega (arith, mem-below n m))),
+    ))
+    (λ (d : x < n). omega (arith, sum-next f n, sum-next g n, h n (λ c. omega arith), sum-but f g n x d h))
+    (eq-or-lt-of-le (omega arith)))
+
+-- the number h once, where y stands among the numbers below n
+pub sum-one : (h y n : ℕ) → y < n → sum (λ g. cond (eqb y g) h 0) (below n) ≡ h
+sum-one h y n l =
+    omega (
+      arith,
+      sum-but (λ g. cond (eqb y g) h 0) (λ g. 0) n y l (λ g d. ap (λ b. cond b h 0) (eqb-differ y g (λ e. d (sym e)))),
+      sum-const 0 (below n),
+      ap (λ b. cond b h 0) (eqb-same y),
+    )

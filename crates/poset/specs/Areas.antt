@@ -12,6 +12,6 @@ overlay written area = written ++ drop (length written) area
 unfoldable pub arcBytes : List Arc → List ℕ
 arcBytes = flatMap (λ a. a .0 ∷ a .1 ∷ [])
 
--- the jobs of a sequence in the first entries of 128, the others 0
+-- a list in the first entries of 128, the others 0: a sequence, hours, gangs
 abbrev pub padded : List ℕ → List ℕ
 padded xs = xs ++ replicate (128 - length xs) 0

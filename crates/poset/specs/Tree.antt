@@ -21,6 +21,11 @@ mutual
     last : Tree → Forest
     more : Tree → Forest → Forest
 
+-- the trees of a forest from left to right; those of `more t f` are the children of a group of t and f
+unfoldable pub trees : Forest → List Tree
+trees (last t) = t ∷ []
+trees (more t f) = t ∷ trees f
+
 -- the leaves from left to right: the forward sequence
 unfoldable mutual
   pub leaves : Tree → List ℕ

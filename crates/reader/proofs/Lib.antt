@@ -19,3 +19,4 @@ pub mod Realized
 pub mod Whole
 pub mod Listed
 pub mod Gives
+pub mod Decoded

@@ -1,24 +1,47 @@
 -- A list with an entry for each job, and the same in the order of a tree's leaves.
-use Prim.Native.Nat.{ℕ, zero, suc, _+_, _≤_, _<_}
-use mathlib.Core.Path.{_≡_, refl, sym, ap, ap₂, subst, _∙_}
+use Prim.Native.Nat.{ℕ, zero, suc, _+_, _-_, _^_, _≤_, _<_}
+use mathlib.Core.Path.{_≡_, refl, sym, ap, ap₂, _∙_}
 use mathlib.Core.List.{List, [], _∷_, _++_, map, List·Memᴰ, List·Memᴰ·head, List·Memᴰ·tail, Memᴰ·append-left, Memᴰ·append-right}
 use native.Mathlib.Decide.{ℕ-discrete}
 use native.Mathlib.Omega.{arith}
-use lib.ListN.{length, getD, length-append}
+use lib.ListN.{length, getD, replicate, length-append}
 use lib.Seq.{getD-append-seam, append-snoc}
+use Rattle.poset.specs.Areas.{padded}
 use Rattle.poset.specs.Lists.{occurrences, upFrom, below}
 use Rattle.poset.specs.Tree.{Tree, leaf, node, Forest, last, more, leaves, forestLeaves}
 use Rattle.poset.proofs.Laws.{eqb-same, eqb-differ, count-same, count-other, mem-count}
 use Rattle.record.specs.Bits.{AllBelow, bits}
-use Rattle.record.specs.Layout.{hoursBits, kindBit, moreChildren, hoursOf, treeBits, forestBits}
+use Rattle.record.specs.Layout.{hoursBits, mostHours, kindBit, moreChildren, hoursOf, treeBits, forestBits}
 use Rattle.record.specs.Decode.{beside}
-use Rattle.record.proofs.Below.{below-head, below-tail}
+use Rattle.record.proofs.Below.{below-nil, below-cons, below-head, below-tail, below-append}
 
 -- what a list has at an entry is below what all of it is
 pub entry-below : (hours : List ℕ) (j m : ℕ) → 0 < m → AllBelow m hours → hoursOf hours j < m
 entry-below [] j m p h = p
 entry-below (x ∷ hours) zero m p h = below-head h
 entry-below (x ∷ hours) (suc j) m p h = entry-below hours j m p (below-tail h)
+
+pub hours-most : (hours : List ℕ) → AllBelow (2 ^ hoursBits) hours → (u : ℕ) → hoursOf hours u ≤ mostHours
+hours-most hours low u = omega (arith, entry-below hours u (2 ^ hoursBits) (omega arith) low)
+
+-- zeros after a list change no entry
+
+zero-entry : (k j : ℕ) → getD {A = ℕ} (replicate k 0) j 0 ≡ 0
+zero-entry zero j = refl
+zero-entry (suc k) zero = refl
+zero-entry (suc k) (suc j) = zero-entry k j
+
+pub entry-padded : (xs : List ℕ) (k j : ℕ) → getD (xs ++ replicate k 0) j 0 ≡ getD xs j 0
+entry-padded [] k j = zero-entry k j
+entry-padded (x ∷ xs) k zero = refl
+entry-padded (x ∷ xs) k (suc j) = entry-padded xs k j
+
+zeros-below : (m k : ℕ) → 0 < m → AllBelow m (replicate k 0)
+zeros-below m zero l = below-nil
+zeros-below m (suc k) l = below-cons l (zeros-below m k l)
+
+pub padded-below : (hours : List ℕ) → AllBelow (2 ^ hoursBits) hours → AllBelow (2 ^ hoursBits) (padded hours)
+padded-below hours h = below-append h (zeros-below (2 ^ hoursBits) (128 - length hours) (omega arith))
 
 module _ {A B : Type 0} where
   pub map-append : (f : A → B) (xs ys : List A) → map f (xs ++ ys) ≡ map f xs ++ map f ys

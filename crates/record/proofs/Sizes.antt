@@ -1,50 +1,34 @@
 -- How many leaves, groups and bits a tree has.
-use Prim.Native.Nat.{ℕ, zero, suc, _+_, _*_, _≤_, _<_}
-use mathlib.Core.Path.{_≡_, refl, sym, ap, _∙_}
-use mathlib.Core.List.{List, [], _∷_, _++_}
+use Prim.Native.Nat.{ℕ, suc, _+_, _*_, _≤_, _<_}
+use mathlib.Core.Path.{_≡_, refl, ap, _∙_}
+use mathlib.Core.List.{List, _++_}
 use mathlib.Core.Bool.{Bool, cond}
-use mathlib.Core.Logic.{⊎-elim}
-use native.Mathlib.Nat.{eq-or-lt-of-le}
+use native.Mathlib.Decide.{decLt}
 use native.Mathlib.Omega.{arith}
 use lib.ListN.{length, length-append}
-use Rattle.poset.specs.Lists.{occurrences}
-use Rattle.poset.specs.Tree.{Kind, series, parallel, Tree, leaf, node, Forest, last, more, leaves, forestLeaves, groups, forestGroups, Spans}
-use Rattle.poset.proofs.Laws.{lt-true, count-same, count-other, count-mem}
+use Rattle.poset.specs.Lists.{occurrences, sum, below}
+use Rattle.poset.specs.Tree.{Kind, series, parallel, Tree, leaf, node, Forest, last, more, trees, leaves, forestLeaves, groups, forestGroups, Spans}
+use Rattle.poset.proofs.Laws.{lt-true, count-mem, below-mem, mem-below}
+use Rattle.poset.proofs.Sums.{sum-gap, sum-agree, sum-const, length-below}
+use Rattle.poset.proofs.Distinct.{sum-counts}
 use Rattle.poset.proofs.Shape.{Once, in-leaves, leaves-in}
 use Rattle.poset.proofs.Meaning.{once-count, spans-holds, holds-spans}
 use Rattle.record.specs.Bits.{AllBelow, bits}
 use Rattle.record.specs.Layout.{hoursBits, leafBits, kindBit, moreChildren, hoursOf, treeBits, forestBits}
-use Rattle.record.proofs.Below.{below-nil, below-cons, below-head, below-tail, below-append, below-left, below-right}
+use Rattle.record.proofs.Below.{below-cons, below-append, below-left, below-right}
 use Rattle.record.proofs.Fields.{bits-below, length-bits}
 
 -- as many leaves as jobs
 
 -- how often the numbers below n stand in a list, all together
-abbrev total : ℕ → List ℕ → ℕ
-total zero xs = 0
-total (suc n) xs = total n xs + occurrences n xs
-
-total-past : (n x : ℕ) (xs : List ℕ) → n ≤ x → total n (x ∷ xs) ≡ total n xs
-total-past zero x xs h = refl
-total-past (suc n) x xs h = omega (arith, total-past n x xs (omega arith), count-other n x xs (omega arith))
-
-total-more : (n x : ℕ) (xs : List ℕ) → x < n → total n (x ∷ xs) ≡ suc (total n xs)
-total-more zero x xs h = absurd (omega arith)
-total-more (suc n) x xs h =
-    ⊎-elim
-    (λ (e : suc x ≡ suc n). omega (arith, total-past n x xs (omega arith), count-same n x xs (omega arith)))
-    (λ (l : suc x < suc n). omega (arith, total-more n x xs (omega arith), count-other n x xs (omega arith)))
-    (eq-or-lt-of-le h)
-
-total-length : (n : ℕ) (xs : List ℕ) → AllBelow n xs → total n xs ≡ length xs
-unfolding occurrences
-total-length zero [] h = refl
-total-length (suc n) [] h = omega (arith, total-length n [] below-nil)
-total-length n (x ∷ xs) h = total-more n x xs (below-head h) ∙ ap suc (total-length n xs (below-tail h))
-
-total-each : (n : ℕ) (xs : List ℕ) → ((u : ℕ) → u < n → occurrences u xs ≡ 1) → total n xs ≡ n
-total-each zero xs h = refl
-total-each (suc n) xs h = omega (arith, h n (omega arith), total-each n xs (λ u l. h u (omega arith)))
+counted : (n : ℕ) (xs : List ℕ) → AllBelow n xs → sum (λ u. occurrences u xs) (below n) ≡ length xs
+counted n xs h =
+    omega (
+      arith,
+      sum-const 1 xs,
+      sum-counts (λ u. 1) n xs h,
+      sum-agree (λ u. occurrences u xs * 1) (λ u. occurrences u xs) (below n) (λ u m. omega arith),
+    )
 
 module _ (n : ℕ) (t : Tree) (s : Spans n t) where
   pub leaves-below : AllBelow n (leaves t)
@@ -53,30 +37,42 @@ module _ (n : ℕ) (t : Tree) (s : Spans n t) where
   pub leaf-once : (u : ℕ) → u < n → occurrences u (leaves t) ≡ 1
   leaf-once u h = s u ∙ ap (λ (b : Bool). cond b 1 0) (lt-true u n h)
 
+  -- a sum over the leaves is one over the jobs
+  pub sum-leaves : (f : ℕ → ℕ) → sum f (leaves t) ≡ sum f (below n)
+  sum-leaves f =
+      sum-counts f n (leaves t) leaves-below
+      ∙ sum-agree (λ u. occurrences u (leaves t) * f u) f (below n) (λ u m. rw (leaf-once u (mem-below n m)) (omega arith))
+
   pub length-leaves : length (leaves t) ≡ n
-  length-leaves = sym (total-length n (leaves t) leaves-below) ∙ total-each n (leaves t) leaf-once
+  length-leaves = omega (arith, sum-const 1 (leaves t), sum-leaves (λ u. 1), sum-const 1 (below n), length-below n)
 
 -- where no job stands twice, as many leaves as jobs are all the jobs
 
-total-le : (n : ℕ) (xs : List ℕ) → ((u : ℕ) → occurrences u xs ≤ 1) → total n xs ≤ n
-total-le zero xs h = omega arith
-total-le (suc n) xs h = omega (arith, total-le n xs h, h n)
-
-total-full : (n : ℕ) (xs : List ℕ) → ((u : ℕ) → occurrences u xs ≤ 1) → total n xs ≡ n → (u : ℕ) → u < n → occurrences u xs ≡ 1
-total-full zero xs h e u l = absurd (omega arith)
-total-full (suc n) xs h e u l =
-    ⊎-elim
-    (λ (q : suc u ≡ suc n). let same : u ≡ n = omega arith in ap (λ (v : ℕ). occurrences v xs) same ∙ omega (arith, total-le n xs h, h n))
-    (λ (m : suc u < suc n). total-full n xs h (omega (arith, total-le n xs h, h n)) u (omega arith))
-    (eq-or-lt-of-le l)
+all-counted : (n : ℕ) (xs : List ℕ) → ((u : ℕ) → occurrences u xs ≤ 1) → AllBelow n xs → length xs ≡ n → (u : ℕ) → u < n → 0 < occurrences u xs
+all-counted n xs once low e u l =
+    elim (decLt 0 (occurrences u xs)) [
+      | yes some ↦ some
+      | no none ↦
+          absurd (omega (
+            arith,
+            counted n xs low,
+            sum-gap (λ v. occurrences v xs) (λ v. 1) 1 (λ v m. once v) (below-mem l) (omega arith),
+            sum-const 1 (below n),
+            length-below n,
+          ))
+    ]
 
 pub length-spans : (n : ℕ) (t : Tree) → Once t → AllBelow n (leaves t) → length (leaves t) ≡ n → Spans n t
 length-spans n t o h e =
     holds-spans n t o (record {
       inside = λ u i. h u (in-leaves t i);
-      outside = λ u l.
-          leaves-in t (count-mem u (leaves t) (omega (arith, total-full n (leaves t) (once-count t o) (total-length n (leaves t) h ∙ e) u l)));
+      outside = λ u l. leaves-in t (count-mem u (leaves t) (all-counted n (leaves t) (once-count t o) h e u l));
     })
+
+pub trees-length : (f : Forest) → length (trees f) ≡ moreChildren f
+unfolding trees moreChildren
+trees-length (last t) = refl
+trees-length (more t f) = ap suc (trees-length f)
 
 -- fewer groups than leaves
 

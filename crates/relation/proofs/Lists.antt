@@ -12,7 +12,7 @@ use lib.Dec.{ltb}
 use lib.ListN.{length}
 use borrow.Author.Tests.{lt-ltb, le-ltb}
 use Rattle.poset.specs.Lists.{exists, keep, upFrom, below, first, onlyIf}
-use Rattle.poset.proofs.Laws.{decided, any-hit, any-none, any-append, keep-yes, keep-not, below-mem, mem-below}
+use Rattle.poset.proofs.Laws.{decided, any-hit, any-none, any-append, keep-yes, keep-not, below-mem, mem-below, below-add}
 use Rattle.poset.proofs.Laws.{first-here, first-later, found-or-none, found-clash, only-if-some, only-if-none}
 use Rattle.poset.proofs.Searches.{first-none, none-first}
 
@@ -137,22 +137,6 @@ module _ {ℓ κ} {A : Type ℓ} {B : Type κ} (p : A → Bool) (g : A → Optio
       (decided (p x))
 
 -- ranges
-
-pub upFrom-add : (k m n : ℕ) → upFrom k (m + n) ≡ upFrom k m ++ upFrom (k + m) n
-unfolding upFrom
-upFrom-add k zero n =
-    let a : 0 + n ≡ n = omega arith in
-    let b : k + 0 ≡ k = omega arith in
-    rw (a, b)
-upFrom-add k (suc m) n =
-    let e : suc m + n ≡ suc (m + n) = omega arith in
-    let d : suc k + m ≡ k + suc m = omega arith in
-    rw (e, ← d) (ap {B = List ℕ} (λ zs. k ∷ zs) (upFrom-add (suc k) m n))
-
--- the numbers below m + n, from m on
-pub below-add : (m n : ℕ) → below (m + n) ≡ below m ++ upFrom m n
-unfolding below
-below-add m n = let e : 0 + m ≡ m = omega arith in rw (upFrom-add 0 m n, e)
 
 pub any-next : (p : ℕ → Bool) (u : ℕ) → exists p (below (u + 1)) ≡ (exists p (below u) || p u)
 unfolding exists upFrom

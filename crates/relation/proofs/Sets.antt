@@ -17,12 +17,12 @@ use lib.Count.{trailingZeros, leadingZeros, ones, ones-le}
 use borrow.Author.Tests.{lt-ltb, le-ltb, eq-eqb, ne-eqb, ltb-true, eqb-true}
 use Rattle.poset.specs.Lists.{exists, keep, upFrom, below}
 use Rattle.poset.proofs.Laws.{clash, false-unless, same-test, any-hit, any-found, any-miss, any-none}
-use Rattle.poset.proofs.Laws.{keep-yes, keep-not, keep-mem, mem-keep, keep-agree, below-mem, mem-below, mem-upFrom}
+use Rattle.poset.proofs.Laws.{keep-yes, keep-not, keep-mem, mem-keep, keep-agree, below-mem, mem-below, mem-upFrom, below-add}
 use Rattle.relation.specs.Table.{bit, has, members, Least, Greatest}
 use Rattle.relation.proofs.Lists.{and-true, and-false, and-comm, or-false, keep-append, keep-none, keep-shift, keep-from}
-use Rattle.relation.proofs.Lists.{below-add, any-after}
+use Rattle.relation.proofs.Lists.{any-after}
 use Rattle.relation.proofs.Words.{bit-tested, bit-and, bit-or, bit-complement, bit-zero, bit-power, bit-ones}
-use Rattle.relation.proofs.Words.{Lowest, lowest, Highest, highest, ones-count}
+use Rattle.relation.proofs.Words.{Lowest, lowest, highest, ones-count}
 
 -- what a row has, by its words
 

@@ -12,9 +12,9 @@ use Rattle.poset.specs.Lists.{below, keep, upFrom}
 use Rattle.poset.specs.Order.{Rel, Strict, HasN, comparable, incomparable}
 use Rattle.poset.specs.Tree.{Kind, series, parallel}
 use Rattle.poset.proofs.Laws.{decided, clash, and-left, and-right, and-intro, not-true, not-false, false-unless}
-use Rattle.poset.proofs.Laws.{ltb-true, lt-true, keep-yes, mem-below, mem-upFrom}
+use Rattle.poset.proofs.Laws.{ltb-true, lt-true, keep-yes, mem-below, mem-upFrom, below-add}
 use Rattle.poset.proofs.Sums.{length-below}
-use Rattle.relation.proofs.Lists.{below-add, keep-append, keep-none}
+use Rattle.relation.proofs.Lists.{keep-append, keep-none}
 use Rattle.poset.proofs.Standing.{near, near-sym, near-either}
 use Rattle.poset.proofs.Linked.{Linked}
 use Rattle.poset.proofs.Components.{Of, Sorted}

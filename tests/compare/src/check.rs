@@ -1,12 +1,12 @@
 //! One input held against `second`, and the count of all of them.
 
-use crate::ffi::{self, Areas, Run};
+use crate::ffi::{self, Areas};
 use crate::generate::{damages, list};
 use crate::lent::Lent;
 use second::joins::Joins;
-use second::{packed, LongestRun, Outcome};
+use second::{packed, Outcome};
 use std::collections::{BTreeMap, HashSet};
-use std::fmt::Write;
+use std::fmt::{Debug, Write};
 use std::hash::{DefaultHasher, Hash, Hasher};
 
 /// Areas long enough for any record and any reduced orders.
@@ -81,12 +81,6 @@ fn hours_room(record: &[u8]) -> usize {
 
 fn bytes_of(numbers: &[u16]) -> Vec<u8> {
     numbers.iter().flat_map(|n| n.to_ne_bytes()).collect()
-}
-
-fn jobs_and_zeros(jobs: &[u8]) -> [u8; 128] {
-    let mut entries = [0; 128];
-    entries[..jobs.len()].copy_from_slice(jobs);
-    entries
 }
 
 fn hex(bytes: &[u8]) -> String {
@@ -173,8 +167,8 @@ pub struct Tally {
     pub failed: u64,
     /// Inputs of each family, and of those the answers by number.
     pub families: BTreeMap<&'static str, [u64; 14]>,
-    /// Calls for a longest run, accepted and refused.
-    pub runs: [u64; 2],
+    /// Questions to a record, accepted and refused.
+    pub questions: [u64; 2],
     /// Calls for a count of joins: without a circle, with one, refused.
     pub joins: [u64; 3],
     distinct: HashSet<u64>,
@@ -191,7 +185,7 @@ impl Tally {
                 *sum += answer;
             }
         }
-        for (sum, calls) in self.runs.iter_mut().zip(other.runs) {
+        for (sum, calls) in self.questions.iter_mut().zip(other.questions) {
             *sum += calls;
         }
         for (sum, calls) in self.joins.iter_mut().zip(other.joins) {
@@ -204,9 +198,9 @@ impl Tally {
         self.distinct.len()
     }
 
-    /// Holds every entry that takes the input against `second`, the longest run of
-    /// the record that it is or gives, and the joins of the orders that it has;
-    /// counts one input.
+    /// Holds every entry that takes the input against `second`, the questions to the
+    /// record that it is or gives, and the joins of the orders that it has; counts
+    /// one input.
     pub fn compare(&mut self, input: &Input, record_area: usize, reduced_area: usize) -> Outcome {
         let expected = input.second(record_area, reduced_area);
         let lent = (record_area, reduced_area);
@@ -266,38 +260,32 @@ impl Tally {
                 }),
         };
         if let Input::Record(record) = input {
-            wrong = wrong.or_else(|| self.longest_run(record).1);
+            wrong = wrong.or_else(|| self.questions(record).1);
         } else if expected.number == 0 {
-            wrong = wrong.or_else(|| self.longest_run(&expected.record).1);
+            wrong = wrong.or_else(|| self.questions(&expected.record).1);
         }
         if let Some((count, list)) = input.listed(&expected) {
             wrong = wrong.or_else(|| self.joins(count, &list).1);
         }
-        self.count((input, record_area, reduced_area), expected.number);
-        if let Some(wrong) = wrong {
+        let wrong = wrong.map(|wrong| {
             let areas = format!("record area {record_area}, reduced area {reduced_area}");
-            self.fail(&format!("{}\n  {areas}\n{wrong}", input.show()));
-        }
+            format!("{}\n  {areas}\n{wrong}", input.show())
+        });
+        self.settle((input, record_area, reduced_area), (expected.number, wrong));
         expected
     }
 
-    /// Holds the longest run of a record, or of bytes that are none, against `second`;
-    /// counts one input.
-    pub fn compare_run(&mut self, record: &[u8]) {
-        let (number, wrong) = self.longest_run(record);
-        self.count(("longest run", record), number);
-        if let Some(wrong) = wrong {
-            self.fail(&wrong);
-        }
+    /// Holds the questions to a record, or of bytes that are none, against `second`: its
+    /// longest run and its gangs; counts one input.
+    pub fn compare_questions(&mut self, record: &[u8]) {
+        let held = self.questions(record);
+        self.settle(("questions", record), held);
     }
 
     /// Holds the joins of a pair list against `second`; counts one input.
     pub fn compare_joins(&mut self, count: u16, list: &[u16]) {
-        let (number, wrong) = self.joins(count, list);
-        self.count(("joins", count, list), number);
-        if let Some(wrong) = wrong {
-            self.fail(&wrong);
-        }
+        let held = self.joins(count, list);
+        self.settle(("joins", count, list), held);
     }
 
     /// The same as `compare` with areas that are long enough; an accepted sheet's or
@@ -332,6 +320,15 @@ impl Tally {
         let mut hasher = DefaultHasher::new();
         input.hash(&mut hasher);
         self.distinct.insert(hasher.finish());
+    }
+
+    /// Counts an input with its answer's number and what was wrong with it, if
+    /// anything.
+    fn settle(&mut self, input: impl Hash, (number, wrong): (u64, Option<String>)) {
+        self.count(input, number);
+        if let Some(wrong) = wrong {
+            self.fail(&wrong);
+        }
     }
 
     fn fail(&mut self, report: &str) {
@@ -415,45 +412,18 @@ impl Tally {
         Some(report)
     }
 
-    /// One call for the longest run of a fresh copy of the record: the number that
-    /// `second` gives, and what is wrong with the call, if anything.
-    fn longest_run(&mut self, record: &[u8]) -> (u64, Option<String>) {
-        let LongestRun {
-            number,
-            places,
-            total,
-            jobs,
-        } = second::longest_run(record);
-        let expected = Run {
-            answer: packed(number, places),
-            total,
-            count: jobs.len() as u64,
-            jobs: jobs_and_zeros(&jobs),
-        };
-        let copy = Lent::new(record);
-        let run = ffi::longest_run(&copy);
-        self.runs[(number != 0) as usize] += 1;
-        if run == expected && copy.is(record) {
-            return (number, None);
-        }
-        let mut report = format!("longest run of record {}\n", hex(record));
-        for (name, run) in [("second", expected), ("ordersheet_longest_run", run)] {
-            let Run {
-                answer,
-                total,
-                count,
-                jobs,
-            } = run;
-            let _ = writeln!(
-                report,
-                "  {name}: answer hexadecimal {answer:x}, total {total}, count {count}"
-            );
-            let _ = writeln!(report, "    jobs {}", hex(&jobs));
-        }
-        if !copy.is(record) {
-            let _ = writeln!(report, "    the record was changed");
-        }
-        (number, Some(report))
+    /// One call for each plan of the record: the number that `second` gives, and what
+    /// is wrong with a call, if anything.
+    fn questions(&mut self, record: &[u8]) -> (u64, Option<String>) {
+        // Once for all of them: it takes most of the time.
+        let read = second::record::read(record);
+        let run = second::longest_run_of(read.as_ref());
+        let gangs = second::gangs_of(read.as_ref());
+        let number = run.number;
+        self.questions[(number != 0) as usize] += 1;
+        let wrong = asked("ordersheet_longest_run", record, run, ffi::longest_run)
+            .or_else(|| asked("ordersheet_gangs", record, gangs, ffi::gangs));
+        (number, wrong)
     }
 
     /// One call for the joins of a fresh copy of the pair list: the number that
@@ -482,4 +452,26 @@ impl Tally {
         }
         (number, Some(report))
     }
+}
+
+/// One call with a fresh copy of the record; what is wrong with it, if anything.
+fn asked<T: Debug + PartialEq>(
+    entry: &str,
+    record: &[u8],
+    expected: impl Into<T>,
+    call: fn(&Lent<u8>) -> T,
+) -> Option<String> {
+    let expected = expected.into();
+    let copy = Lent::new(record);
+    let given = call(&copy);
+    if given == expected && copy.is(record) {
+        return None;
+    }
+    let mut report = format!("record {}, all in hexadecimal\n", hex(record));
+    let _ = writeln!(report, "  second: {expected:x?}");
+    let _ = writeln!(report, "  {entry}: {given:x?}");
+    if !copy.is(record) {
+        let _ = writeln!(report, "    the record was changed");
+    }
+    Some(report)
 }

@@ -1,6 +1,7 @@
 //! The families of inputs.
 
 use crate::check::{Input, Tally, ENOUGH};
+use crate::gangs;
 use crate::generate::*;
 use crate::joins;
 use crate::runs;
@@ -36,7 +37,7 @@ impl Task {
 
 /// All tasks, those of the heavy families first.
 pub fn tasks() -> Vec<Task> {
-    let families: [(&'static str, usize, Body); 45] = [
+    let families: [(&'static str, usize, Body); 48] = [
         (
             "sheets about the longest",
             LONG_COUNTS.len(),
@@ -60,19 +61,30 @@ pub fn tasks() -> Vec<Task> {
         ("cut short at every byte", 10, cut_short),
         ("every text of up to 6 letters", TEXT_PARTS, every_text),
         ("records with a flaw", 20, flawed_records),
-        ("longest runs of any tree", 20, runs::any_trees),
+        ("questions on any tree", 20, runs::any_trees),
         (
-            "longest runs of extreme trees",
+            "questions on extreme trees",
             runs::EXTREME_PARTS,
             runs::extreme_trees,
         ),
         ("longest runs that are equal", 10, runs::equal_totals),
         (
-            "longest runs of small trees",
+            "questions on small trees",
             runs::SMALL_PARTS,
             runs::small_trees,
         ),
-        ("longest runs of no record", 10, runs::no_records),
+        ("gangs of unequal widths", 10, gangs::unequal_widths),
+        (
+            "gangs of every number",
+            gangs::NUMBER_PARTS,
+            gangs::every_number,
+        ),
+        (
+            "gangs of every tree of 6 jobs",
+            gangs::SIX_PARTS,
+            gangs::six_jobs,
+        ),
+        ("questions on no record", 10, runs::no_records),
         ("joins of repeated orders", 10, joins::repeated_orders),
         ("joins of 4,096 orders", 10, joins::many_orders),
         (

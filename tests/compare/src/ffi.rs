@@ -3,6 +3,7 @@
 
 use crate::check::Guarded;
 use crate::lent::Lent;
+use second::packed;
 
 extern "C" {
     fn ordersheet_analyse(
@@ -65,17 +66,59 @@ extern "C" {
 
     fn ordersheet_longest_run(record: *const u8, record_len: usize) -> Run;
 
+    fn ordersheet_gangs(record: *const u8, record_len: usize) -> GangPlan;
+
     fn bench_joins(arcs: *const u16, numbers: usize, n: u16, again: u16) -> usize;
 }
 
 /// What comes back of a longest run: its jobs, so many, have zeros after them.
-#[derive(PartialEq, Eq)]
+#[derive(Debug, PartialEq, Eq)]
 #[repr(C)]
 pub struct Run {
     pub answer: u64,
     pub total: u64,
     pub count: u64,
     pub jobs: [u8; 128],
+}
+
+/// What comes back of gangs: their hours, so many, and the gangs of the jobs have
+/// zeros after them.
+#[derive(Debug, PartialEq, Eq)]
+#[repr(C)]
+pub struct GangPlan {
+    pub answer: u64,
+    pub count: u64,
+    pub hours: [u32; 128],
+    pub gangs: [u8; 128],
+}
+
+impl From<second::LongestRun> for Run {
+    fn from(run: second::LongestRun) -> Run {
+        Run {
+            answer: packed(run.number, run.places),
+            total: run.total,
+            count: run.jobs.len() as u64,
+            jobs: and_zeros(&run.jobs),
+        }
+    }
+}
+
+impl From<second::GangPlan> for GangPlan {
+    fn from(plan: second::GangPlan) -> GangPlan {
+        GangPlan {
+            answer: packed(plan.number, plan.places),
+            count: plan.hours.len() as u64,
+            hours: and_zeros(&plan.hours),
+            gangs: and_zeros(&plan.gangs),
+        }
+    }
+}
+
+/// The entries, and zeros after them.
+pub fn and_zeros<T: Copy + Default>(entries: &[T]) -> [T; 128] {
+    let mut all = [T::default(); 128];
+    all[..entries.len()].copy_from_slice(entries);
+    all
 }
 
 /// The areas lent to a call.
@@ -167,6 +210,10 @@ pub fn test_read(record: &Lent<u8>, areas: &mut Areas) -> u64 {
 
 pub fn longest_run(record: &Lent<u8>) -> Run {
     unsafe { ordersheet_longest_run(record.pointer(), record.length()) }
+}
+
+pub fn gangs(record: &Lent<u8>) -> GangPlan {
+    unsafe { ordersheet_gangs(record.pointer(), record.length()) }
 }
 
 pub fn joins(count: u16, list: &Lent<u16>) -> usize {

@@ -157,12 +157,12 @@ pub fn plain(mut shape: Shape) -> Shape {
     shape
 }
 
-fn leaves(jobs: &[usize]) -> Vec<Shape> {
+pub fn leaves(jobs: &[usize]) -> Vec<Shape> {
     jobs.iter().map(|&job| Shape::Leaf(job)).collect()
 }
 
 /// A group of the children, or the one child that there is.
-fn group(side: bool, mut children: Vec<Shape>) -> Shape {
+pub fn group(side: bool, mut children: Vec<Shape>) -> Shape {
     if children.len() == 1 {
         return children.remove(0);
     }
@@ -173,6 +173,46 @@ fn group(side: bool, mut children: Vec<Shape>) -> Shape {
 pub fn blocks(jobs: &[usize], side: bool, width: usize) -> Shape {
     let each = jobs.chunks(width).map(|jobs| group(!side, leaves(jobs)));
     group(side, each.collect())
+}
+
+/// Groups of both kinds in turn, the outermost of this kind, so many in each other,
+/// the children of each of unequal numbers of jobs.
+pub fn uneven(rng: &mut Rng, jobs: &[usize], side: bool, depth: usize) -> Shape {
+    if depth == 1 || jobs.len() == 1 {
+        return group(side, leaves(jobs));
+    }
+    let mut rest = jobs;
+    let mut children = Vec::new();
+    for size in unequal_sizes(rng, jobs.len()) {
+        let (part, others) = rest.split_at(size);
+        children.push(uneven(rng, part, !side, depth - 1));
+        rest = others;
+    }
+    group(side, children)
+}
+
+/// Sizes of two parts or more of so many: 1, 2, 3 and so on, backwards or in any
+/// sequence, or one large part among some of 1.
+fn unequal_sizes(rng: &mut Rng, total: usize) -> Vec<usize> {
+    if rng.percent(50) {
+        let ones = rng.from(1, 3.min(total - 1));
+        let mut sizes = vec![1; ones];
+        sizes.insert(rng.below(ones + 1), total - ones);
+        return sizes;
+    }
+    let mut sizes = Vec::new();
+    let mut left = total;
+    while left > 0 {
+        let size = left.min(sizes.len() + 1);
+        sizes.push(size);
+        left -= size;
+    }
+    match rng.below(3) {
+        0 => {}
+        1 => sizes.reverse(),
+        _ => rng.shuffle(&mut sizes),
+    }
+    sizes
 }
 
 /// Groups of two of both kinds in turn, the outermost of this kind, each the last

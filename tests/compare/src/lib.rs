@@ -4,6 +4,7 @@
 pub mod check;
 pub mod families;
 pub mod ffi;
+pub mod gangs;
 pub mod generate;
 pub mod joins;
 pub mod lent;

@@ -5,8 +5,9 @@
 //! `compare` runs every family, `compare WORD...` those whose names hold one of
 //! the words. The last line is `N passed, M failed`, N and M counting inputs: a
 //! sheet or pair list with two area lengths, a record with one, a record for its
-//! longest run alone, or a pair list for its joins alone. Answers of the last are
-//! numbered 0 without a circle, 7 with one, 3 and 5 where nothing is counted.
+//! questions alone, for the longest run and the gangs, or a pair list for its joins alone.
+//! Answers of the last are numbered 0 without a circle, 7 with one, 3 and 5 where
+//! nothing is counted.
 
 use std::process::ExitCode;
 use std::time::Instant;
@@ -28,8 +29,8 @@ fn main() -> ExitCode {
             .collect();
         println!("{family:<36}{total:>8}   {}", each.join(", "));
     }
-    let [accepted, refused] = tally.runs;
-    println!("longest runs: {accepted} of records, {refused} of bytes that are none");
+    let [accepted, refused] = tally.questions;
+    println!("questions: {accepted} of records, {refused} of bytes that are none");
     let [without, with, refused] = tally.joins;
     println!("joins: {without} without a circle, {with} with one, {refused} refused");
     println!(

@@ -1,6 +1,8 @@
 //! The C entries made of `second`, to try the harness with no library. A fault
 //! other than 0 makes them wrong in one way, which the harness has to find.
 
+mod gangs;
+
 use crate::ffi;
 use crate::generate::{list, with_hours_of, Bits};
 use second::joins::{self, Different, Joins};
@@ -8,13 +10,13 @@ use second::longest::{self, Run};
 use second::order;
 use second::sheet::Sheet;
 use second::tree::Tree;
-use second::{packed, Outcome, LONGEST_RECORD, LONGEST_SHEET, MOST_HOURS};
+use second::{packed, LongestRun, Outcome, LONGEST_RECORD, LONGEST_SHEET, MOST_HOURS};
 use std::slice::{from_raw_parts, from_raw_parts_mut};
 use std::sync::atomic::{AtomicUsize, Ordering};
 
 pub static FAULT: AtomicUsize = AtomicUsize::new(0);
 
-pub const FAULTS: [&str; 135] = [
+pub const FAULTS: [&str; 170] = [
     "none",
     "a byte after the record is set",
     "a byte after the reduced orders is set",
@@ -123,6 +125,41 @@ pub const FAULTS: [&str; 135] = [
     "a run is given where a job does not stand",
     "a run is given where a group is in one of its kind",
     "a run is given where side children do not ascend",
+    "a chain numbers its children's gangs one after the other",
+    "a chain joins its children's last gangs",
+    "a chain has as many gangs as its first child",
+    "a chain has as many gangs as its last child",
+    "the children of a side group share gangs",
+    "a side group has as many gangs as its widest child",
+    "a later child's gangs are numbered ahead of an earlier one's",
+    "the gangs of the child with most jobs are numbered first",
+    "each job by its number has the first gang that can have it",
+    "gangs are numbered by their smallest jobs",
+    "gangs are numbered from 1",
+    "the number of a gang has 6 bits",
+    "the gangs of jobs are listed in leaf order",
+    "the last job of a gang is left out of its hours",
+    "the hours of a gang have 16 bits",
+    "the hours of a gang have 18 bits",
+    "a gang with no hours is left out",
+    "the last of 128 gangs is left out",
+    "the count of gangs is one too many",
+    "the count of gangs is one too few",
+    "hours are left after the last gang",
+    "a gang is left after the last job",
+    "the answer to gangs has the record's places",
+    "the record of gangs is written to",
+    "the longest record has no gangs",
+    "a count of gangs stays on refusal",
+    "a gang's hours stay on refusal",
+    "a job's gang stays on refusal",
+    "gangs are given where zero bytes follow the record",
+    "gangs are given where bits that fill the last byte are set",
+    "gangs are given where a group has one child",
+    "gangs are given where a job stands twice",
+    "gangs are given where a job does not stand",
+    "gangs are given where a group is in one of its kind",
+    "gangs are given where side children do not ascend",
     "repeats of an order are joined again",
     "a repeat is joined again where another order stands between",
     "an order that follows from others is not joined",
@@ -853,53 +890,57 @@ fn run_of_side(mut runs: Vec<Run>) -> Run {
 /// Whether a tree on so many jobs breaks a rule.
 type Breaks = fn(&Tree, usize) -> bool;
 
-/// Faults where a rule is not tested.
+/// Rules that may not be tested.
 const UNTESTED: [(&str, Breaks); 5] = [
-    ("a run is given where a group has one child", |tree, _| {
+    ("a group has one child", |tree, _| {
         !tree.groups_have_two_or_more()
     }),
-    ("a run is given where a job stands twice", |tree, _| {
-        !tree.no_job_twice()
+    ("a job stands twice", |tree, _| !tree.no_job_twice()),
+    ("a job does not stand", |tree, count| {
+        !tree.every_job_stands(count)
     }),
-    (
-        "a run is given where a job does not stand",
-        |tree, count| !tree.every_job_stands(count),
-    ),
-    (
-        "a run is given where a group is in one of its kind",
-        |tree, _| !tree.no_chain_in_chain() || !tree.no_side_in_side(),
-    ),
-    (
-        "a run is given where side children do not ascend",
-        |tree, _| !tree.side_children_ascend(),
-    ),
+    ("a group is in one of its kind", |tree, _| {
+        !tree.no_chain_in_chain() || !tree.no_side_in_side()
+    }),
+    ("side children do not ascend", |tree, _| {
+        !tree.side_children_ascend()
+    }),
 ];
 
-/// The tree of bytes that are no record, where they are let pass.
-fn let_pass(record: &[u8]) -> Option<Tree> {
+/// The job count and tree of bytes that are no record, where by a fault with a name
+/// that begins so a plan is given of them all the same.
+fn let_pass(record: &[u8], given: &str) -> Option<(usize, Tree)> {
+    let name = FAULTS[FAULT.load(Ordering::Relaxed)];
+    let untested = name.strip_prefix(given)?;
     let mut bytes = record.to_vec();
-    if fault("a run is given where zero bytes follow the record") {
+    if untested == "zero bytes follow the record" {
         while bytes.last() == Some(&0) && second::record::read(&bytes).is_none() {
             bytes.pop();
         }
-        return Some(second::record::read(&bytes)?.1);
+        return second::record::read(&bytes);
     }
-    if fault("a run is given where bits that fill the last byte are set") {
+    if untested == "bits that fill the last byte are set" {
         *bytes.last_mut()? &= 0xfe;
-        return Some(second::record::read(&bytes)?.1);
+        return second::record::read(&bytes);
     }
-    let (_, breaks) = UNTESTED.iter().find(|(name, _)| fault(name))?;
+    let (_, breaks) = UNTESTED.iter().find(|(rule, _)| *rule == untested)?;
     let (count, tree) = second::record::spelled(&bytes)?;
-    (tree.jobs_below(count) && breaks(&tree, count)).then_some(tree)
+    (tree.jobs_below(count) && breaks(&tree, count)).then_some((count, tree))
+}
+
+/// The answer when the record is read.
+fn answer_to(record: &[u8]) -> u64 {
+    let read = second::read_record(record, 8192);
+    packed(read.number, read.places)
 }
 
 /// The run of bytes, all that comes back of it wrong in one way.
 fn wrong_run(record: &[u8]) -> ffi::Run {
-    let read = second::record::read(record).map(|(_, tree)| tree);
+    let read = second::record::read(record);
     let refused = read.is_none();
-    let tree = read.or_else(|| let_pass(record));
-    let number = if tree.is_some() { 0 } else { 11 };
-    let Run { total, mut jobs } = tree.as_ref().map_or(Run::default(), run_of);
+    let read = read.or_else(|| let_pass(record, "a run is given where "));
+    let number = if read.is_some() { 0 } else { 11 };
+    let Run { total, mut jobs } = read.map_or(Run::default(), |(_, tree)| run_of(&tree));
     jobs.truncate(128);
     if fault("a run is listed latest first") {
         jobs.reverse();
@@ -910,15 +951,12 @@ fn wrong_run(record: &[u8]) -> ffi::Run {
     if fault("the last of 128 jobs of a run is left out") {
         jobs.truncate(127);
     }
-    let mut run = ffi::Run {
-        answer: packed(number, [0; 4]),
+    let mut run = ffi::Run::from(LongestRun {
+        number,
+        places: [0; 4],
         total: total as u64,
-        count: jobs.len() as u64,
-        jobs: [0; 128],
-    };
-    for (entry, &job) in run.jobs.iter_mut().zip(&jobs) {
-        *entry = job as u8;
-    }
+        jobs: jobs.iter().map(|&job| job as u8).collect(),
+    });
     if fault("the total of a run has 16 bits") {
         run.total %= 1 << 16;
     }
@@ -932,8 +970,7 @@ fn wrong_run(record: &[u8]) -> ffi::Run {
         run.jobs[jobs.len()] = 1;
     }
     if !refused && fault("the answer to a run has the record's places") {
-        let read = second::read_record(record, 8192);
-        run.answer = packed(read.number, read.places);
+        run.answer = answer_to(record);
     }
     if refused && fault("a total stays on refusal") {
         run.total = 1;
@@ -1132,6 +1169,14 @@ pub unsafe extern "C" fn ordersheet_longest_run(record: *const u8, record_len: u
         *(record as *mut u8).add(record_len - 1) ^= 1;
     }
     wrong_run(from_raw_parts(record, record_len))
+}
+
+#[no_mangle]
+pub unsafe extern "C" fn ordersheet_gangs(record: *const u8, record_len: usize) -> ffi::GangPlan {
+    if record_len > 0 && fault("the record of gangs is written to") {
+        *(record as *mut u8).add(record_len - 1) ^= 1;
+    }
+    gangs::wrong_gangs(from_raw_parts(record, record_len))
 }
 
 #[no_mangle]

@@ -1,4 +1,5 @@
-//! The families of records for their longest run alone.
+//! The families of records for questions to them alone, for the longest run and
+//! the gangs.
 
 use crate::check::Tally;
 use crate::generate::*;
@@ -14,7 +15,7 @@ fn each_hours(rng: &mut Rng, count: usize) -> [Vec<u16>; 6] {
 }
 
 /// A job count, small or any.
-fn small_or_any(rng: &mut Rng) -> usize {
+pub fn small_or_any(rng: &mut Rng) -> usize {
     if rng.percent(10) {
         rng.from(1, MOST_JOBS)
     } else {
@@ -27,7 +28,7 @@ pub fn any_trees(rng: &mut Rng, _: usize, tally: &mut Tally) {
         let count = small_or_any(rng);
         let tree = plain(shape(rng, count, true));
         for hours in each_hours(rng, count) {
-            tally.compare_run(&laid_out(&tree, &hours));
+            tally.compare_questions(&laid_out(&tree, &hours));
         }
     }
 }
@@ -55,7 +56,7 @@ pub fn extreme_trees(rng: &mut Rng, part: usize, tally: &mut Tally) {
             ] {
                 let tree = plain(tree);
                 for hours in each_hours(rng, count) {
-                    tally.compare_run(&laid_out(&tree, &hours));
+                    tally.compare_questions(&laid_out(&tree, &hours));
                 }
             }
         }
@@ -80,7 +81,7 @@ pub fn equal_totals(rng: &mut Rng, _: usize, tally: &mut Tally) {
             for less in [0, 20, 70] {
                 let mut hours = vec![0; count];
                 share(rng, &tree, total.min(most), less, &mut hours);
-                tally.compare_run(&laid_out(&tree, &hours));
+                tally.compare_questions(&laid_out(&tree, &hours));
             }
         }
     }
@@ -151,7 +152,7 @@ pub fn small_trees(_: &mut Rng, part: usize, tally: &mut Tally) {
             for choice in 0..of.len().pow(count as u32) {
                 let each = |job: usize| of[choice / of.len().pow(job as u32) % of.len()];
                 let hours: Vec<u16> = (0..count).map(each).collect();
-                tally.compare_run(&laid_out(tree, &hours));
+                tally.compare_questions(&laid_out(tree, &hours));
             }
         }
     }
@@ -159,10 +160,10 @@ pub fn small_trees(_: &mut Rng, part: usize, tally: &mut Tally) {
 
 /// Bytes that are no record, or nearly none.
 pub fn no_records(rng: &mut Rng, part: usize, tally: &mut Tally) {
-    tally.compare_run(&[]);
+    tally.compare_questions(&[]);
     for round in 0..600 {
         let record = flawed_record(rng, FLAWS[round % FLAWS.len()]);
-        tally.compare_run(&record);
+        tally.compare_questions(&record);
     }
     for _ in 0..40 {
         let count = rng.from(1, 9);
@@ -178,20 +179,20 @@ pub fn no_records(rng: &mut Rng, part: usize, tally: &mut Tally) {
         for _ in 0..4 {
             damages(&record)
                 .iter()
-                .for_each(|damaged| tally.compare_run(damaged));
-            tally.compare_run(&flip(&record, rng.below(8 * record.len())));
-            tally.compare_run(&record[..rng.below(record.len())]);
+                .for_each(|damaged| tally.compare_questions(damaged));
+            tally.compare_questions(&flip(&record, rng.below(8 * record.len())));
+            tally.compare_questions(&record[..rng.below(record.len())]);
         }
     }
     for _ in 0..400 {
         let length = rng.pick(&[4, 7, 8, 12, 40, LONGEST_RECORD, LONGEST_RECORD + 1]);
         let length = rng.from(1, length);
         let mut bytes: Vec<u8> = (0..length).map(|_| rng.below(256) as u8).collect();
-        tally.compare_run(&bytes);
+        tally.compare_questions(&bytes);
         // As many jobs as there is room for.
         let count = (8 * length / 20).clamp(1, MOST_JOBS);
         bytes[0] = 2 * (count - 1) as u8 + bytes[0] % 2;
-        tally.compare_run(&bytes);
+        tally.compare_questions(&bytes);
     }
     if part == 0 {
         about_the_longest(rng, tally);
@@ -201,26 +202,26 @@ pub fn no_records(rng: &mut Rng, part: usize, tally: &mut Tally) {
 /// Every bit flipped, cut off after every byte, lengthened, any two jobs exchanged,
 /// hours of fewer bits and of more.
 fn damaged_everywhere(rng: &mut Rng, tally: &mut Tally, record: &[u8]) {
-    tally.compare_run(record);
+    tally.compare_questions(record);
     for at in 0..8 * record.len() {
-        tally.compare_run(&flip(record, at));
+        tally.compare_questions(&flip(record, at));
     }
     for length in 0..record.len() {
-        tally.compare_run(&record[..length]);
+        tally.compare_questions(&record[..length]);
     }
     for more in [0, 1, 0x80, rng.below(256)] {
-        tally.compare_run(&[record, &[more as u8]].concat());
-        tally.compare_run(&[&[more as u8], record].concat());
+        tally.compare_questions(&[record, &[more as u8]].concat());
+        tally.compare_questions(&[&[more as u8], record].concat());
     }
-    tally.compare_run(&[record, record].concat());
+    tally.compare_questions(&[record, record].concat());
     let fields = job_fields(record);
     for (i, &one) in fields.iter().enumerate() {
         for &other in &fields[..i] {
-            tally.compare_run(&swap_jobs(record, one, other));
+            tally.compare_questions(&swap_jobs(record, one, other));
         }
     }
     for width in 0..=16 {
-        tally.compare_run(&with_hours_of(record, width));
+        tally.compare_questions(&with_hours_of(record, width));
     }
 }
 
@@ -228,24 +229,24 @@ fn damaged_everywhere(rng: &mut Rng, tally: &mut Tally, record: &[u8]) {
 /// record with bytes more and fewer; strings of one byte, most of them too long.
 fn about_the_longest(rng: &mut Rng, tally: &mut Tally) {
     for groups in 0..=245 {
-        tally.compare_run(&nested_record(rng, groups));
+        tally.compare_questions(&nested_record(rng, groups));
     }
     let mut longest = nested_record(rng, 127);
     assert_eq!(longest.len(), LONGEST_RECORD);
     for length in 0..LONGEST_RECORD {
-        tally.compare_run(&longest[..length]);
+        tally.compare_questions(&longest[..length]);
     }
     for _ in 0..60 {
         longest.push(0);
-        tally.compare_run(&longest);
+        tally.compare_questions(&longest);
     }
     for length in [
         463, 464, 465, 466, 1000, 8192, 65_535, 65_536, 65_540, 70_000,
     ] {
         longest.resize(length, 0);
-        tally.compare_run(&longest);
+        tally.compare_questions(&longest);
         for byte in [0, 0x55, 0x80, 0xaa, 0xff] {
-            tally.compare_run(&vec![byte; length]);
+            tally.compare_questions(&vec![byte; length]);
         }
     }
 }

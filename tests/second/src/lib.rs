@@ -1,9 +1,10 @@
-//! The analysis of order sheets and pair lists, the record reader, the longest run
-//! and the count of joins, written from document 01 and requests A.1 to A.4 alone
-//! by the plainest search their words allow; the count with a circle, of which
-//! they say nothing, by the definition that the product has.
+//! The analysis of order sheets and pair lists, the record reader, the longest
+//! run, the gangs and the count of joins, written from document 01 and requests A.1
+//! to A.5 alone by the plainest search their words allow; the count with a circle,
+//! of which they say nothing, by the definition that the product has.
 
 pub mod cases;
+pub mod gangs;
 pub mod joins;
 pub mod longest;
 pub mod order;
@@ -11,6 +12,7 @@ pub mod record;
 pub mod sheet;
 pub mod tree;
 
+use longest::Run;
 use sheet::Sheet;
 use tree::Tree;
 
@@ -178,15 +180,57 @@ pub struct LongestRun {
 
 /// The longest run of a record.
 pub fn longest_run(record: &[u8]) -> LongestRun {
-    let (number, run) = match record::read(record) {
-        Some((_, tree)) => (0, longest::of_tree(&tree)),
-        None => (11, longest::Run::default()),
-    };
+    longest_run_of(record::read(record).as_ref())
+}
+
+/// The same of the job count and tree that were read, if the bytes are a record.
+pub fn longest_run_of(read: Option<&(usize, Tree)>) -> LongestRun {
+    let run = read.map_or(Run::default(), |(_, tree)| longest::of_tree(tree));
     LongestRun {
-        number,
+        number: number_of(read),
         places: [0; 4],
         total: run.total as u64,
         jobs: run.jobs.into_iter().map(|job| job as u8).collect(),
+    }
+}
+
+/// An answer, the hours of each gang's jobs together, as many as there are gangs,
+/// and the gang of each job; on refusal there are none of either.
+#[derive(Clone, Debug, PartialEq, Eq)]
+pub struct GangPlan {
+    pub number: u64,
+    pub places: [u64; 4],
+    pub hours: Vec<u32>,
+    pub gangs: Vec<u8>,
+}
+
+/// The gangs of a record.
+pub fn gangs(record: &[u8]) -> GangPlan {
+    gangs_of(record::read(record).as_ref())
+}
+
+/// The same of the job count and tree that were read, if the bytes are a record.
+pub fn gangs_of(read: Option<&(usize, Tree)>) -> GangPlan {
+    let gangs = read.map_or(Vec::new(), |(_, tree)| gangs::of_tree(tree));
+    let mut of_jobs = vec![0; read.map_or(0, |(count, _)| *count)];
+    for (number, gang) in gangs.iter().enumerate() {
+        gang.jobs
+            .iter()
+            .for_each(|&job| of_jobs[job] = number as u8);
+    }
+    GangPlan {
+        number: number_of(read),
+        places: [0; 4],
+        hours: gangs.iter().map(|gang| gang.total as u32).collect(),
+        gangs: of_jobs,
+    }
+}
+
+/// The answer's number, 11 where the bytes are no record.
+fn number_of(read: Option<&(usize, Tree)>) -> u64 {
+    match read {
+        Some(_) => 0,
+        None => 11,
     }
 }
 

@@ -1,10 +1,10 @@
-//! What document 01 and requests A.1 to A.4 say of single sheets, lists and
+//! What document 01 and requests A.1 to A.5 say of single sheets, lists and
 //! records.
 
 use second::cases::{cases, sheet, widest, zeros};
 use second::{
-    analyse_pairs, analyse_sheet, joins, longest_run, packed, printed, read_record, LongestRun,
-    Outcome, LONGEST_RECORD, LONGEST_SHEET, MOST_ORDERS,
+    analyse_pairs, analyse_sheet, gangs, joins, longest_run, packed, printed, read_record,
+    GangPlan, LongestRun, Outcome, LONGEST_RECORD, LONGEST_SHEET, MOST_ORDERS,
 };
 
 const ENOUGH: (usize, usize) = (464, 8192);
@@ -611,18 +611,29 @@ fn longest_runs() {
     }
 }
 
+/// 128 jobs of the same hours, with no orders.
+fn all_of(hours: usize) -> String {
+    "128/".to_string() + &format!("{hours}/").repeat(128)
+}
+
+/// One series of 128 jobs, then the same turned.
+fn both_series() -> [String; 2] {
+    let chain = (1..128).map(|job| format!("{} {job}/", job - 1));
+    let turned = (1..128).map(|job| format!("{job} {}/", job - 1));
+    [chain.collect(), turned.collect()]
+}
+
 #[test]
 fn longest_runs_of_128_jobs() {
     let every: Vec<u8> = (0..128).collect();
-    let all = |hours: usize| "128/".to_string() + &format!("{hours}/").repeat(128);
-    let chain: String = (1..128).map(|job| format!("{} {job}/", job - 1)).collect();
-    let turned: String = (1..128).map(|job| format!("{job} {}/", job - 1)).collect();
+    let [chain, turned] = both_series();
     for (hours, total) in [(4095, 524_160), (1, 128), (0, 0)] {
-        let (in_chain, in_turned) = (all(hours) + &chain, all(hours) + &turned);
+        let all = all_of(hours);
+        let (in_chain, in_turned) = (all.clone() + &chain, all.clone() + &turned);
         assert_eq!(run(&in_chain), (total, every.clone()));
         let latest_first = every.iter().rev().copied().collect();
         assert_eq!(run(&in_turned), (total, latest_first));
-        assert_eq!(run(&all(hours)), (hours as u64, vec![0]));
+        assert_eq!(run(&all), (hours as u64, vec![0]));
     }
     // Side by side, with one of more hours, and with one more as long.
     let one_more = |at: usize| {
@@ -637,35 +648,124 @@ fn longest_runs_of_128_jobs() {
     assert_eq!(run(&widest()), (0, vec![0, 64]));
 }
 
+/// The hours of each gang of a sheet's record, and the gang of each job.
+fn planned(shown: &str) -> (Vec<u32>, Vec<u8>) {
+    let plan = gangs(&analysed(shown).record);
+    assert_eq!((plan.number, plan.places), (0, [0; 4]), "{shown}");
+    (plan.hours, plan.gangs)
+}
+
 #[test]
-fn no_run_of_what_is_no_record() {
-    let record = analysed("5/40/16/16/24/8/0 1/0 2/1 3/2 3/0 3/").record;
-    let none = LongestRun {
-        number: 11,
-        places: [0; 4],
-        total: 0,
-        jobs: Vec::new(),
-    };
-    for length in 0..record.len() {
-        assert_eq!(longest_run(&record[..length]), none);
+fn fewest_gangs() {
+    for (shown, hours, of_jobs) in [
+        // A leaf.
+        ("1/0/", &[0][..], &[0][..]),
+        ("1/4095/", &[4095], &[0]),
+        // A chain has one gang where its children have one.
+        ("2/3/4/1 0/", &[7], &[0, 0]),
+        ("3/0/5/0/2 1/1 0/", &[5], &[0, 0, 0]),
+        // A side group numbers one after the other, gangs of no hours too.
+        ("2/3/4/", &[3, 4], &[0, 1]),
+        ("4/1/0/7/0/", &[1, 0, 7, 0], &[0, 1, 2, 3]),
+        // The first child is the chain 2, 0, though its leaf 2 is above job 1.
+        ("3/1/2/4/2 0/", &[5, 2], &[0, 1, 0]),
+        ("3/1/2/4/1 2/", &[1, 6], &[0, 1, 1]),
+        // Side groups in a chain: as wide, one way round and the other; the first wider,
+        // with a leaf between; the last wider.
+        ("4/1/2/4/8/0 2/0 3/1 2/1 3/", &[5, 10], &[0, 1, 0, 1]),
+        ("4/1/2/4/8/2 0/3 0/2 1/3 1/", &[5, 10], &[0, 1, 0, 1]),
+        (
+            "6/1/2/4/8/16/32/0 3/1 3/2 3/3 4/3 5/",
+            &[25, 34, 4],
+            &[0, 1, 2, 0, 0, 1],
+        ),
+        ("4/1/2/4/8/0 1/0 2/0 3/", &[3, 4, 8], &[0, 0, 1, 2]),
+        // Side by side: 0 and 1 before 2, and 3 before 4, 5 and 6.
+        (
+            "7/1/2/4/8/16/32/64/0 2/1 2/3 4/3 5/3 6/",
+            &[5, 2, 24, 32, 64],
+            &[0, 1, 0, 2, 2, 3, 4],
+        ),
+        // In a chain: 0 before 1, and 2 aside; then 3, and 4 before 5 and 6 aside.
+        (
+            "7/1/2/4/8/16/32/64/0 1/1 3/1 4/2 3/2 4/4 5/4 6/",
+            &[11, 52, 64],
+            &[0, 0, 1, 0, 1, 1, 2],
+        ),
+    ] {
+        let expected = (hours.to_vec(), of_jobs.to_vec());
+        assert_eq!(planned(shown), expected, "{shown}");
     }
-    let longer = [&record[..], &[0]].concat();
-    assert_eq!(longest_run(&longer), none);
-    assert_eq!(longest_run(&[0; 465]), none);
-    assert_eq!(longest_run(&[0xff; 464]), none);
-    // Side children the wrong way round, a job twice, a chain in a chain.
-    assert_eq!(longest_run(&[3, 0x81, 1, 0, 0x70, 0, 9]), none);
-    assert_eq!(longest_run(&[3, 1, 0, 0, 0x70, 0, 9]), none);
+}
+
+/// The hull of docs/FOREMAN.md: the plate, the first frame and the stringer, then the
+/// second frame, then the hatch cover.
+#[test]
+fn gangs_of_the_hull() {
+    let hull = "5/40/16/16/24/8/0 1/0 2/1 3/2 3/0 3/";
+    let gangs = vec![0, 0, 1, 0, 2];
+    assert_eq!(planned(hull), (vec![40 + 16 + 24, 16, 8], gangs.clone()));
+    let without_hours = "5/0/0/0/0/0/0 1/0 2/1 3/2 3/0 3/";
+    assert_eq!(planned(without_hours), (vec![0, 0, 0], gangs));
+}
+
+#[test]
+fn gangs_of_128_jobs() {
+    let every: Vec<u8> = (0..128).collect();
+    for (hours, total) in [(4095, 524_160), (1, 128), (0, 0)] {
+        for series in both_series() {
+            let in_series = all_of(hours) + &series;
+            assert_eq!(planned(&in_series), (vec![total], vec![0; 128]));
+        }
+        let alone = vec![hours as u32; 128];
+        assert_eq!(planned(&all_of(hours)), (alone, every.clone()));
+        let each = vec![2 * hours as u32; 64];
+        let two_of_each = every.iter().map(|job| job % 64).collect();
+        let wide = widest().replacen(&all_of(0), &all_of(hours), 1);
+        assert_eq!(planned(&wide), (each, two_of_each));
+    }
+}
+
+/// Bytes that are no record: that of a sheet cut off and lengthened, strings of one
+/// byte, side children the wrong way round, a job twice, a chain in a chain.
+fn no_records() -> Vec<Vec<u8>> {
+    let record = analysed("5/40/16/16/24/8/0 1/0 2/1 3/2 3/0 3/").record;
+    let cut_off = |length: usize| record[..length].to_vec();
+    let mut none: Vec<Vec<u8>> = (0..record.len()).map(cut_off).collect();
+    none.push([&record[..], &[0]].concat());
+    none.extend([vec![0; 465], vec![0xff; 464]]);
+    none.push(vec![3, 0x81, 1, 0, 0x70, 0, 9]);
+    none.push(vec![3, 1, 0, 0, 0x70, 0, 9]);
     let chain_in_chain = "0000010".to_string()
         + &"100000001".repeat(2)
         + &["00", "01", "10"]
             .map(|job| "000000".to_string() + job + "000000000111")
             .concat();
     let bits = chain_in_chain + "000";
-    let byte = |at: usize| u8::from_str_radix(&bits[8 * at..8 * at + 8], 2).unwrap();
-    let bytes: Vec<u8> = (0..bits.len() / 8).map(byte).collect();
     assert_eq!((bits.len() / 8, bits.len() % 8), (11, 0));
-    assert_eq!(longest_run(&bytes), none);
+    let byte = |at: usize| u8::from_str_radix(&bits[8 * at..8 * at + 8], 2).unwrap();
+    none.push((0..bits.len() / 8).map(byte).collect());
+    none
+}
+
+#[test]
+fn no_run_and_no_gangs_of_what_is_no_record() {
+    let no_run = LongestRun {
+        number: 11,
+        places: [0; 4],
+        total: 0,
+        jobs: Vec::new(),
+    };
+    let no_gangs = GangPlan {
+        number: 11,
+        places: [0; 4],
+        hours: Vec::new(),
+        gangs: Vec::new(),
+    };
+    for bytes in no_records() {
+        assert_eq!(longest_run(&bytes), no_run, "{bytes:?}");
+        assert_eq!(gangs(&bytes), no_gangs, "{bytes:?}");
+    }
 }
 
 #[test]

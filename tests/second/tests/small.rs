@@ -3,7 +3,7 @@
 use second::joins::{by_passes, different, of_list, Joins};
 use second::order::{before, first_n, free, reduced, Before};
 use second::tree::{of_order, Tree};
-use second::{analyse_pairs, joins, longest_run, read_record, record, sheet};
+use second::{analyse_pairs, gangs, joins, longest_run, read_record, record, sheet, GangPlan};
 use std::collections::{BTreeMap, HashSet};
 
 /// Different hours for each job, 0 and the most among them.
@@ -297,6 +297,19 @@ fn with_hours(tree: &Tree, hours: &[usize]) -> Tree {
     }
 }
 
+/// Every set of jobs of which any two stand so, each listed in the sequence given.
+fn every_set(sequence: &[usize], stand_so: impl Fn(usize, usize) -> bool) -> Vec<Vec<usize>> {
+    let mut sets = Vec::new();
+    for choice in 0u32..1 << sequence.len() {
+        let chosen = (0..sequence.len()).filter(|place| choice >> place & 1 == 1);
+        let set: Vec<usize> = chosen.map(|place| sequence[place]).collect();
+        if (0..set.len()).all(|i| set[..i].iter().all(|&u| stand_so(u, set[i]))) {
+            sets.push(set);
+        }
+    }
+    sets
+}
+
 /// Tries every set of the tree's jobs. The total is the greatest sum of hours over
 /// those in which any two jobs are ordered. Of those with that sum that no further
 /// job can join, the run is the one that comes first by its jobs' places in the
@@ -308,16 +321,8 @@ fn check_run_by_every_set(tree: &Tree, count: usize) {
     let forward = tree.forward();
     let ordered = |u: usize, v: usize| table[u][v] || table[v][u];
     let sum = |set: &[usize]| set.iter().map(|&job| hours[job]).sum::<usize>();
-    let mut sets = Vec::new();
-    for choice in 0u32..1 << count {
-        // By their places, in which each job is ahead of all that are after it.
-        let chosen = (0..count).filter(|place| choice >> place & 1 == 1);
-        let set: Vec<usize> = chosen.map(|place| forward[place]).collect();
-        let all_ordered = (0..set.len()).all(|i| set[..i].iter().all(|&u| ordered(u, set[i])));
-        if all_ordered {
-            sets.push(set);
-        }
-    }
+    // By their places, in which each job is ahead of all that are after it.
+    let sets = every_set(&forward, ordered);
     let greatest = sets.iter().map(|set| sum(set)).max().unwrap();
 
     let run = longest_run(&record::lay_out(count, tree));
@@ -428,24 +433,149 @@ fn some_tree(numbers: &mut Numbers, jobs: &[usize], side: bool) -> Tree {
     }
 }
 
-#[test]
-fn longest_run_of_some_records_of_up_to_12_jobs() {
-    let mut numbers = Numbers(3);
-    for round in 0..4000 {
+/// A plain tree on 6 to 12 jobs for each round, without hours.
+fn some_trees(numbers: &mut Numbers, rounds: usize, mut check: impl FnMut(&mut Numbers, &Tree)) {
+    for round in 0..rounds {
         let count = 6 + round % 7;
         let mut jobs = jobs(count);
         for i in 1..count {
             jobs.swap(i, numbers.below(i + 1));
         }
         let side = numbers.below(2) == 1;
-        let tree = some_tree(&mut numbers, &jobs, side);
+        let tree = some_tree(numbers, &jobs, side);
         assert!(tree.is_plain(count));
-        for bound in [1, 2, 3, 10, 4096] {
-            let hours: Vec<usize> = (0..count).map(|_| numbers.below(bound)).collect();
-            check_run_by_every_set(&with_hours(&tree, &hours), count);
-        }
-        check_run_by_every_set(&with_hours(&tree, &vec![4095; count]), count);
+        check(numbers, &tree);
     }
+}
+
+/// Hours below the bound for so many jobs.
+fn some_hours(numbers: &mut Numbers, count: usize, bound: usize) -> Vec<usize> {
+    (0..count).map(|_| numbers.below(bound)).collect()
+}
+
+#[test]
+fn longest_run_of_some_records_of_up_to_12_jobs() {
+    some_trees(&mut Numbers(3), 4000, |numbers, tree| {
+        let count = tree.forward().len();
+        for bound in [1, 2, 3, 10, 4096] {
+            let hours = some_hours(numbers, count, bound);
+            check_run_by_every_set(&with_hours(tree, &hours), count);
+        }
+        check_run_by_every_set(&with_hours(tree, &vec![4095; count]), count);
+    });
+}
+
+/// Whether the jobs can be assigned to these gangs, which have some already, and to
+/// new ones, at most so many in all, so that any two in a gang are ordered.
+fn assignable(jobs: &[usize], gangs: &mut Vec<Vec<usize>>, most: usize, table: &Before) -> bool {
+    let Some((&job, rest)) = jobs.split_first() else {
+        return true;
+    };
+    for number in 0..gangs.len() {
+        if gangs[number].iter().any(|&other| free(table, job, other)) {
+            continue;
+        }
+        gangs[number].push(job);
+        if assignable(rest, gangs, most, table) {
+            return true;
+        }
+        gangs[number].pop();
+    }
+    if gangs.len() == most {
+        return false;
+    }
+    gangs.push(vec![job]);
+    let done = assignable(rest, gangs, most, table);
+    gangs.pop();
+    done
+}
+
+/// The gang of each job in two other ways: in each side group over the job, add for
+/// each child left of it the most jobs of that child that are free of each other; and
+/// take the jobs in the forward sequence, each to the first gang of which all jobs are
+/// ordered with it.
+fn gangs_of_jobs(tree: &Tree, table: &Before, free_sets: &[Vec<usize>]) -> [Vec<usize>; 2] {
+    let most_free_within = |node: &Tree| {
+        let within = node.forward();
+        let inside = |set: &&Vec<usize>| set.iter().all(|job| within.contains(job));
+        free_sets.iter().filter(inside).map(Vec::len).max().unwrap()
+    };
+    let mut ahead = vec![0; table.len()];
+    for node in tree.nodes() {
+        let Tree::Side(children) = node else {
+            continue;
+        };
+        let mut left = 0;
+        for child in children {
+            child.forward().iter().for_each(|&job| ahead[job] += left);
+            left += most_free_within(child);
+        }
+    }
+    let mut gangs: Vec<Vec<usize>> = vec![Vec::new(); table.len()];
+    let mut first = vec![0; table.len()];
+    for job in tree.forward() {
+        let takes = |gang: &Vec<usize>| !gang.iter().any(|&other| free(table, job, other));
+        first[job] = gangs.iter().position(takes).unwrap();
+        gangs[first[job]].push(job);
+    }
+    [ahead, first]
+}
+
+/// No gang is empty, its jobs are ordered, and its hours are theirs together.
+fn check_each_gang(plan: &GangPlan, table: &Before, hours: &[usize]) {
+    for (number, &together) in plan.hours.iter().enumerate() {
+        let has = |job: &usize| plan.gangs[*job] as usize == number;
+        let gang: Vec<usize> = (0..table.len()).filter(has).collect();
+        assert!(!gang.is_empty(), "{plan:?}");
+        for &u in &gang {
+            assert!(!gang.iter().any(|&v| free(table, u, v)), "{plan:?}");
+        }
+        let sum: usize = gang.iter().map(|&job| hours[job]).sum();
+        assert_eq!(together as usize, sum, "{plan:?}");
+    }
+    let together: u32 = plan.hours.iter().sum();
+    assert_eq!(together as usize, hours.iter().sum::<usize>(), "{plan:?}");
+}
+
+/// Tries every set of the tree's jobs, and every assignment of them to fewer gangs.
+fn check_gangs_by_every_set(tree: &Tree, count: usize) {
+    let table = tree.meaning(count);
+    let free_sets = every_set(&tree.forward(), |u, v| free(&table, u, v));
+    let most_free = free_sets.iter().map(Vec::len).max().unwrap();
+
+    let plan = gangs(&record::lay_out(count, tree));
+    assert_eq!((plan.number, plan.places), (0, [0; 4]));
+    assert_eq!(plan.hours.len(), most_free, "{tree:?}");
+    for fewer in 0..=most_free {
+        let can = assignable(&jobs(count), &mut Vec::new(), fewer, &table);
+        assert_eq!(can, fewer == most_free, "{tree:?}");
+    }
+    check_each_gang(&plan, &table, &tree.hours(count));
+    let of_jobs: Vec<usize> = plan.gangs.iter().map(|&gang| gang as usize).collect();
+    for by_other_words in gangs_of_jobs(tree, &table, &free_sets) {
+        assert_eq!(of_jobs, by_other_words, "{tree:?}");
+    }
+}
+
+#[test]
+fn gangs_of_every_small_record() {
+    for count in 1..=5 {
+        let trees = all_trees(&jobs(count)).into_iter();
+        for tree in trees.filter(|tree| tree.is_plain(count)) {
+            for hours in [HOURS, [0; 5], [4095; 5], [1, 2, 4, 8, 16]] {
+                check_gangs_by_every_set(&with_hours(&tree, &hours), count);
+            }
+        }
+    }
+}
+
+#[test]
+fn gangs_of_some_records_of_up_to_12_jobs() {
+    some_trees(&mut Numbers(6), 4000, |numbers, tree| {
+        let count = tree.forward().len();
+        let hours = some_hours(numbers, count, 4096);
+        check_gangs_by_every_set(&with_hours(tree, &hours), count);
+    });
 }
 
 /// A job's row, made once from the finished rows of the jobs after it, each join

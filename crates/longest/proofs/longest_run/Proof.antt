@@ -3,7 +3,8 @@ use borrow.Author.Needs.{needs}
 use borrow.Author.Tests.{not-true, not-false}
 use mathlib.Core.Path.{refl}
 use Rattle.reader.proofs.Whole.{slice-below}
-use Rattle.longest.proofs.Answering.{Decoded, decoded, hours-low, listed, linked, shows-11, shows-run}
+use Rattle.reader.proofs.Decoded.{Decoded, decoded, undecoded, hours-low, listed}
+use Rattle.longest.proofs.Answering.{linked, shows-11, shows-run}
 use Rattle.longest.proofs.longest_run.Statement.{statement}
 use Rattle.longest.proofs.longest_run.Tie as tie
 
@@ -17,7 +18,7 @@ read-nodes-requires : tie.Need-read-nodes-requires
 read-nodes-requires c κs = search needs
 
 returns : tie.Need-returns
-returns c = let r = c .before .before in shows-11 _ _ (r .read-nodes .ensures) (not-true _ (c .if1 .taken))
+returns c = let r = c .before .before in shows-11 _ (undecoded _ _ (r .read-nodes .ensures) (not-true _ (c .if1 .taken)))
 
 longest-requires : tie.Need-longest-requires
 longest-requires c κs = let d = read-tree (c .before .before .before .before .before) in (hours-low d, refl, (d .tree, listed d))

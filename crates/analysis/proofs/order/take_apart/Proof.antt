@@ -15,13 +15,14 @@ use Rattle.relation.specs.Table.{holds, Inside}
 use Rattle.relation.proofs.Chain.{reduced-inside}
 use Rattle.record.specs.Bits.{AllBelow}
 use Rattle.record.specs.Layout.{hoursBits}
+use Rattle.record.proofs.Entries.{padded-below}
 use Rattle.writer.specs.Written.{written}
 use Rattle.writer.specs.declared.writing.Written.{Written}
 use Rattle.writer.proofs.Spelling.{written-told, bytes-few, bytes-size}
 use Rattle.analysis.specs.Result.{rooms}
 use Rattle.analysis.proofs.Crossing.{gives-told, gives-crossed}
 use Rattle.analysis.proofs.Taking.{count-few, gives-9, gives-10, gives-0}
-use Rattle.analysis.proofs.Times.{padded-below, written-padded}
+use Rattle.analysis.proofs.Times.{written-padded}
 use Rattle.analysis.proofs.order.take_apart.Statement.{statement}
 use Rattle.analysis.proofs.order.take_apart.Tie as tie
 

@@ -3,7 +3,8 @@ use Prim.Native.Nat.{_-_, _≤_, _<_}
 use native.Mathlib.Omega.{arith}
 use Rattle.poset.specs.Tree.{Tree}
 use Rattle.record.specs.Layout.{hoursOf}
-use Rattle.longest.specs.Stack.{runs, Stacked, Listed}
+use Rattle.reader.specs.Nodes.{Listed}
+use Rattle.longest.specs.Stack.{runs, Stacked}
 use Rattle.longest.proofs.Pending.{spells, pending, row-step, row-fits, nodes-few, row-end, row-found}
 use Rattle.longest.proofs.stack.longest.Statement.{statement}
 use Rattle.longest.proofs.stack.longest.Tie as tie

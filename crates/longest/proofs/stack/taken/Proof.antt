@@ -6,7 +6,8 @@ use native.Mathlib.Omega.{arith}
 use Rattle.poset.specs.Tree.{Kind, series, parallel, Tree}
 use Rattle.record.specs.Layout.{hoursOf}
 use Rattle.longest.specs.Stack.{Runs, runs, Step, Fits, Stacked}
-use Rattle.longest.proofs.Stacking.{hours-most, taken-leaf, IsGroup, Opened, taken-group}
+use Rattle.record.proofs.Entries.{hours-most}
+use Rattle.longest.proofs.Stacking.{taken-leaf, IsGroup, Opened, taken-group}
 use Rattle.longest.proofs.stack.taken.Statement.{statement}
 use Rattle.longest.proofs.stack.taken.Tie as tie
 

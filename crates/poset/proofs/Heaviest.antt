@@ -9,31 +9,43 @@ use mathlib.Core.Logic.{_⊎_, inl, inr, ⊎-elim}
 use native.Mathlib.Decide.{decLe}
 use native.Mathlib.Omega.{arith}
 use lib.Dec.{ltb}
 use Rattle.poset.specs.Lists.{exists, member, occurrences, sum}
 use Rattle.poset.specs.Order.{Rel}
 use Rattle.poset.specs.Tree.{Kind, series, parallel, Tree, leaf, node, Forest, last, more, leaves, forestLeaves}
 use Rattle.poset.proofs.Laws.{decided, clash, false-unless, any-found, any-miss, ltb-true, lt-true, member-mem}
 use Rattle.poset.proofs.Standing.{near, other, Stands, near-sym, stands-near, stands-apart, stands-differ}
 use Rattle.poset.proofs.Shape.{In, InForest, InGroup, leaves-in, forestLeaves-in, in-leaves, Across, Good, GoodForest}
 use Rattle.poset.proofs.Sums.{sum-append, sum-zero}
-use Rattle.longest.specs.Longest.{WorkRun, joinedRuns}
-use Rattle.longest.proofs.Sums.{Distinct, distinct-cons, subset-sum}
+use Rattle.poset.proofs.Distinct.{Distinct, distinct-cons, subset-sum}
 
-abbrev pub grown : Kind → Kind → WorkRun → WorkRun → WorkRun
-grown series k = joinedRuns k
-grown parallel k = joinedRuns (other k)
+-- a total, and the jobs that it is of
+abbrev pub Weighed : Type 0
+Weighed = ℕ × List ℕ
+
+abbrev added : Weighed → Weighed → Weighed
+added a b = (a .0 + b .0, a .1 ++ b .1)
+
+abbrev greater : Weighed → Weighed → Weighed
+greater a b = cond (ltb (a .0) (b .0)) b a
+
+-- what a group of kind k has of its first child and of the others
+abbrev pub grown : (d k : Kind) → Weighed → Weighed → Weighed
+grown series series a b = added a b
+grown series parallel a b = greater a b
+grown parallel series a b = greater a b
+grown parallel parallel a b = added a b
 
 abbrev mutual
-  pub heaviest : Kind → (ℕ → ℕ) → Tree → WorkRun
+  pub heaviest : Kind → (ℕ → ℕ) → Tree → Weighed
   heaviest d w (leaf j) = (w j, j ∷ [])
   heaviest d w (node k t f) = grown d k (heaviest d w t) (forestHeaviest d w k f)
 
-  pub forestHeaviest : Kind → (ℕ → ℕ) → Kind → Forest → WorkRun
+  pub forestHeaviest : Kind → (ℕ → ℕ) → Kind → Forest → Weighed
   forestHeaviest d w k (last t) = heaviest d w t
   forestHeaviest d w k (more t f) = grown d k (heaviest d w t) (forestHeaviest d w k f)
 
 -- a group of kind k adds, or takes one of its two parts that is not lighter than the other
-data Grows (r : Rel) (d k : Kind) (a b : WorkRun) : WorkRun → Type 0 where
+data Grows (r : Rel) (d k : Kind) (a b : Weighed) : Weighed → Type 0 where
   adds : ((u v : ℕ) → Stands k r u v → Stands d r u v) → Grows r d k a b (a .0 + b .0, a .1 ++ b .1)
   first : ((u v : ℕ) → Stands k r u v → near (other d) r u v ≡ true → ⊥) → b .0 ≤ a .0 → Grows r d k a b a
   second : ((u v : ℕ) → Stands k r u v → near (other d) r u v ≡ true → ⊥) → a .0 ≤ b .0 → Grows r d k a b b
@@ -42,17 +54,15 @@ pub not-less : (m n : ℕ) → ltb m n ≡ false → n ≤ m
 not-less m n e = elim (decLe n m) [ yes l ↦ l | no l ↦ absurd (clash (lt-true m n (omega arith)) e) ]
 
 picks
-    : (r : Rel) (d k : Kind) (a b : WorkRun) → ((u v : ℕ) → Stands k r u v → near (other d) r u v ≡ true → ⊥)
-    → Grows r d k a b (joinedRuns parallel a b)
-unfolding joinedRuns
+    : (r : Rel) (d k : Kind) (a b : Weighed) → ((u v : ℕ) → Stands k r u v → near (other d) r u v ≡ true → ⊥)
+    → Grows r d k a b (greater a b)
 picks r d k a b no-two =
     ⊎-elim
     (λ (e : ltb (a .0) (b .0) ≡ true). rw e (second no-two (omega (arith, ltb-true (a .0) (b .0) e))))
     (λ (e : ltb (a .0) (b .0) ≡ false). rw e (first no-two (not-less (a .0) (b .0) e)))
     (decided (ltb (a .0) (b .0)))
 
-grows : (r : Rel) (d k : Kind) (a b : WorkRun) → Grows r d k a b (grown d k a b)
-unfolding joinedRuns
+grows : (r : Rel) (d k : Kind) (a b : Weighed) → Grows r d k a b (grown d k a b)
 grows r series series a b = adds (λ u v s. s)
 grows r series parallel a b = picks r series parallel a b (stands-apart parallel r)
 grows r parallel series a b = picks r parallel series a b (stands-apart series r)
@@ -72,16 +82,16 @@ laid-append d r (x ∷ xs) ys p q h = (
 )
 
 -- what is found of the jobs of S
-pub record Attained (d : Kind) (r : Rel) (w : ℕ → ℕ) (S : ℕ → Type 0) (c : WorkRun) : Type 0 where
+pub record Attained (d : Kind) (r : Rel) (w : ℕ → ℕ) (S : ℕ → Type 0) (c : Weighed) : Type 0 where
   pub total : sum w (c .1) ≡ c .0
   pub inside : (u : ℕ) → List·Memᴰ u (c .1) → S u
   pub laid : Laid d r (c .1)
 
 module _ (d : Kind) (r : Rel) (w : ℕ → ℕ) where
-  wider : {S T : ℕ → Type 0} {c : WorkRun} → ((u : ℕ) → S u → T u) → Attained d r w S c → Attained d r w T c
+  wider : {S T : ℕ → Type 0} {c : Weighed} → ((u : ℕ) → S u → T u) → Attained d r w S c → Attained d r w T c
   wider i x = record { total = x .total; inside = λ u m. i u (x .inside u m); laid = x .laid }
 
-  group-attained : (k : Kind) (t : Tree) (f : Forest) (a b : WorkRun) {c : WorkRun} → Grows r d k a b c → Across r k t f
+  group-attained : (k : Kind) (t : Tree) (f : Forest) (a b : Weighed) {c : Weighed} → Grows r d k a b c → Across r k t f
       → Attained d r w (In t) a → Attained d r w (InForest f) b → Attained d r w (InGroup t f) c
   group-attained k t f a b (adds alike) across x y =
       record {
@@ -157,7 +167,7 @@ module _ (d : Kind) (r : Rel) (w : ℕ → ℕ) where
             let stands = across u v (leaves-in t m) (forestLeaves-in f i) in
             ⊎-elim (λ (e : u ≡ v). stands-differ k r u v stands e) (λ (h : near (other d) r u v ≡ true). no-two u v stands h) (any-two u v su sv)
 
-    group-bound : (k : Kind) (t : Tree) (f : Forest) (a b : WorkRun) {c : WorkRun} → Grows r d k a b c → Across r k t f
+    group-bound : (k : Kind) (t : Tree) (f : Forest) (a b : Weighed) {c : Weighed} → Grows r d k a b c → Across r k t f
         → sum weight (leaves t) ≤ a .0 → sum weight (forestLeaves f) ≤ b .0 → sum weight (leaves t ++ forestLeaves f) ≤ c .0
     group-bound k t f a b (adds alike) across x y = omega (arith, sum-append weight (leaves t) (forestLeaves f))
     group-bound k t f a b (first no-two l) across x y = one-side k t f (a .0) (b .0) no-two across x y (a .0) (omega arith) l

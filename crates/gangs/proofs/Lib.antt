@@ -1,0 +1,9 @@
+pub mod Fewest
+pub mod Placing
+pub mod Taking
+pub mod Nodes
+pub mod Answering
+pub mod Records
+pub mod Sheets
+pub mod Examples
+pub mod Theorems
