@@ -1,15 +1,17 @@
-/* desk FILE: what the sheet in FILE gives, in words.
+/* desk FILE [FIRST SECOND]: what the sheet in FILE gives, in words. The reason is that between the jobs FIRST and
+ * SECOND, or where none are named between job 0 and the last job.
  *
  *     rt staticlib desk
  *     cc -std=c11 -Wall -Wextra -O2 -Iinclude examples/desk.c target/staticlib/libdesk.a -o desk
  *
  * Exit status: 0 accepted, 1 refused, 2 a wrong usage or a file that cannot be read, 3 the record reads back
- * otherwise, or has no longest run or no gangs. */
+ * otherwise, or has no longest run, no gangs or no reason. */
 
 #define _POSIX_C_SOURCE 200809L
 #include <fcntl.h>
 #include <inttypes.h>
 #include <stdio.h>
+#include <stdlib.h>
 #include <string.h>
 #include <unistd.h>
 
@@ -82,6 +84,9 @@ static void explain(uint64_t answer)
     case 13:
         printf("the hours of job %u are above %d\n", first, ORDERSHEET_HOURS);
         break;
+    case 14:
+        printf("a job number is not below the job count\n");
+        break;
     }
 }
 
@@ -103,9 +108,12 @@ static void show_run(const ordersheet_run *run)
     printf("\n");
 }
 
+/* The first 7 bits of a record are its job count minus 1. */
+static unsigned job_count(void) { return (record[0] >> 1) + 1; }
+
 static void show_gangs(const ordersheet_gang_plan *plan)
 {
-    unsigned jobs = (record[0] >> 1) + 1; /* the first 7 bits of a record are its job count minus 1 */
+    unsigned jobs = job_count();
     printf("fewest gangs: %" PRIu64 "\n", plan->count);
     for (unsigned gang = 0; gang < plan->count; gang++) {
         printf("gang %u: %" PRIu32 " hours, jobs", gang, plan->hours[gang]);
@@ -116,10 +124,41 @@ static void show_gangs(const ordersheet_gang_plan *plan)
     }
 }
 
+static void show_reason(unsigned first, unsigned second, const ordersheet_ruling *ruling)
+{
+    printf("reason: rule %" PRIu64 ", ", ruling->rule);
+    switch (ruling->rule) {
+    case 1:
+        printf("job %u and job %u are the same, by the leaf", first, second);
+        break;
+    case 2:
+        printf("job %u is before job %u, by the chain", first, second);
+        break;
+    case 3:
+        printf("job %u is before job %u, by the chain", second, first);
+        break;
+    case 4:
+        printf("job %u and job %u are free, by the side group", first, second);
+        break;
+    }
+    printf(" at position %" PRIu64 " with %" PRIu64 " job%s\n", ruling->position, ruling->jobs,
+           ruling->jobs == 1 ? "" : "s");
+}
+
+/* A job number of 16 bits; whether the word is one. */
+static int job_number(const char *word, uint16_t *job)
+{
+    char *end;
+    unsigned long number = strtoul(word, &end, 10);
+    *job = (uint16_t)number;
+    return *word >= '0' && *word <= '9' && *end == '\0' && number <= UINT16_MAX;
+}
+
 int main(int arguments, char **argument)
 {
-    if (arguments != 2) {
-        fprintf(stderr, "usage: desk FILE\n");
+    uint16_t first = 0, second = 0;
+    if (arguments != 2 && !(arguments == 4 && job_number(argument[2], &first) && job_number(argument[3], &second))) {
+        fprintf(stderr, "usage: desk FILE [FIRST SECOND]\n");
         return 2;
     }
     ssize_t length = slurp(argument[1], sheet, sizeof sheet);
@@ -150,8 +189,20 @@ int main(int arguments, char **argument)
         fprintf(stderr, "the record has no gangs: %" PRIx64 "\n", plan.answer);
         return 3;
     }
+    if (arguments == 2)
+        second = (uint16_t)(job_count() - 1);
+    ordersheet_ruling ruling = ordersheet_reason(record, bytes, first, second);
+    if (ordersheet_number(ruling.answer) == 11) {
+        fprintf(stderr, "the record has no reason: %" PRIx64 "\n", ruling.answer);
+        return 3;
+    }
     show(bytes, orders, ordersheet_third(answer));
     show_run(&run);
     show_gangs(&plan);
+    if (ordersheet_number(ruling.answer) != 0) {
+        explain(ruling.answer);
+        return 1;
+    }
+    show_reason(first, second, &ruling);
     return 0;
 }

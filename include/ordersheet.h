@@ -1,17 +1,17 @@
-/* Order sheets and cutting records: the planning desk's four calls.
+/* Order sheets and cutting records: the planning desk's five calls.
  *
  * A sheet is a line with the job count, then as many lines as the count says, each with one job's hours from job 0 on,
  * then a line for each order, two job numbers with one space between. A number has one to three digits, hours one to
  * four, and no leading zero. A line ends in \n or \r\n.
  *
- * Each call hands back an answer, one 64-bit number; those of a longest run and of gangs stand ahead of them:
+ * Each call hands back an answer, one 64-bit number; a longest run, gangs and a reason have it as their first field:
  *
  *     number + 2^8 * first + 2^24 * second + 2^40 * third + 2^48 * fourth
  *
  * Number 0 is acceptance; its places are the record's bytes, the reduced orders, the groups in the tree, and 0, or all
- * 0 for a longest run and for gangs. The others are refusals, tested in the order 1, 2, 3, 4, 13, 5, 6, 7, 8, 9, 10 for
- * a sheet and 11, 10 for a record that is read; a longest run and gangs are refused with 11 alone. A place that is not
- * named here is 0. Orders, jobs, gangs and bytes are counted from 0.
+ * 0 for a longest run, for gangs and for a reason. The others are refusals, tested in the order 1, 2, 3, 4, 13, 5, 6,
+ * 7, 8, 9, 10 for a sheet, 11, 10 for a record that is read and 11, 14 for a reason; a longest run and gangs are
+ * refused with 11 alone. A place that is not named here is 0. Orders, jobs, gangs, nodes and bytes are counted from 0.
  *
  *      1  the sheet is longer than ORDERSHEET_SHEET bytes
  *      2  the sheet breaks the line form; first: the byte where it does, or the sheet's length where it stops short
@@ -26,16 +26,17 @@
  *     11  the bytes offered as a record are not the record of any plain tree
  *     12  the hours list is not as long as the job count; of pair lists only, which no call takes
  *     13  a job's hours are above ORDERSHEET_HOURS; first: the first such job
+ *     14  a job number is not below the record's job count
  *
  * A refusal leaves the areas untouched. On acceptance the bytes after the written ones stay. ORDERSHEET_RECORD_AREA
  * and ORDERSHEET_REDUCED_AREA bytes are always enough, and 9 and 10 are then never given. Any lengths may be lent. A
- * longest run and gangs take no area.
+ * longest run, gangs and a reason take no area.
  *
  * A pointer is good for as many bytes as the length after it says; where that is 0 it is not followed. An area
  * overlaps neither the other area nor the input. The calls never fail otherwise, whatever the input is: they
  * allocate nothing, keep nothing between calls, and may run on several threads at once. A call takes less than
  * ORDERSHEET_STACK bytes of stack: tests/stack/stack.c measures up to 50,000 for a sheet and, for bytes offered as a
- * record, 17,000 to read them, 14,000 for a longest run and 15,000 for gangs. */
+ * record, 17,000 to read them, 14,000 for a longest run, 15,000 for gangs and 13,000 for a reason. */
 
 #ifndef ORDERSHEET_H
 #define ORDERSHEET_H
@@ -86,6 +87,19 @@ typedef struct {
  * group numbers its children's gangs one after the other, a chain joins gang 0 of every child, then gang 1, and so on.
  * A record of n jobs has n gang numbers; the first 7 bits of its bytes are n - 1. */
 ordersheet_gang_plan ordersheet_gangs(const uint8_t *record, size_t record_length);
+
+/* The reason between two jobs: how they stand, and the lowest group over both, which decides it. A node's position is
+ * how many nodes are ahead of it in the record. */
+typedef struct {
+    uint64_t answer;   /* 0, its places 0; or 11 or 14, and then all below is 0 */
+    uint64_t rule;     /* 1 the same job, 2 the first before the second, 3 the second before the first, 4 free */
+    uint64_t position; /* of the lowest group over both, or with rule 1 of the job's leaf: 0 to 254 */
+    uint64_t jobs;     /* how many jobs are under it: 2 to ORDERSHEET_JOBS, or with rule 1 a single one */
+} ordersheet_ruling;
+
+/* The reason between two jobs of a record. The group is a chain with rules 2 and 3, the job in its earlier child being
+ * before the other, and a side group with rule 4. Each call reads the record anew. */
+ordersheet_ruling ordersheet_reason(const uint8_t *record, size_t record_length, uint16_t first, uint16_t second);
 
 /* An answer's number and places. */
 static inline unsigned ordersheet_number(uint64_t answer) { return answer & 0xff; }

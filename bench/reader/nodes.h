@@ -1,4 +1,4 @@
-// The nodes of a record in C, for longest/ and gangs/: the fields of a node, and the first of the product's steps, a reading and a list of the nodes.
+// The nodes of a record in C, for longest/, gangs/ and reason/: the fields of a node, and the first of the product's steps, a reading and a list of the nodes.
 #include "records.h"
 
 // In pieces of 64 bytes: for more of them gcc takes an instruction that is slow to begin.

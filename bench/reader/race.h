@@ -1,5 +1,13 @@
-// A call of the product that takes a record beside C programs that do the same, in one process, on the same bytes: for longest/ and gangs/. Included after
-// nodes.h and a typedef of `result`, the struct that the call hands back; its `answer` is 0 or NO_RECORD, and then all else is 0.
+// A call of the product that takes a record beside C programs that do the same, in one process, on the same bytes: for longest/, gangs/ and reason/. Included
+// after nodes.h and a typedef of `result`, the struct that the call hands back; its `answer` is 0 or a refusal, and then all else is 0.
+
+// What a call asks beside the record. One that asks nothing has one question. Another defines QUESTIONS, how many it has of a record, and TIMED, how many of
+// them, the first, are timed; `choose` draws those of a record, `ask` says which of them the next calls have. The first is answered for every record.
+#ifndef QUESTIONS
+enum { QUESTIONS = 1, TIMED = 1 };
+static inline void choose(const uint8_t *record, size_t length) { (void)record, (void)length; }
+static inline void ask(unsigned k) { (void)k; }
+#endif
 
 // The product's reading of a record alone, from target/staticlib/libreader_bench.a; all 0 where the bytes are none.
 typedef struct { uint64_t count, groups; uint8_t forward[128], reverse[128]; uint16_t hours[128]; } reader_bench_reading;
@@ -42,16 +50,20 @@ static void same_reading(const uint8_t *record, size_t length) {
     }
     if (!agree) differ("the readings differ", record, length);
 }
-// The result of every side, which has to be the same, and of a record where the two calls that read say that it is one.
+// The result of every side, which has to be the same for each question, and of a record where the two calls that read say that it is one.
 static result last_result;
 static uint64_t same(const uint8_t *record, size_t length) {
     program *const c[] = {side.one, side.other, side.nodes};
-    last_result = side.product(record, length);
-    for (int i = 0; i < 3; i++) {
-        result r;
-        memset(&r, 0x5a, sizeof r);
-        c[i](record, length, &r);
-        if (memcmp(&r, &last_result, sizeof r)) differ("the results differ", record, length);
+    choose(record, length);
+    for (unsigned k = QUESTIONS; k--;) {
+        ask(k);
+        last_result = side.product(record, length);
+        for (int i = 0; i < 3; i++) {
+            result r;
+            memset(&r, 0x5a, sizeof r);
+            c[i](record, length, &r);
+            if (memcmp(&r, &last_result, sizeof r)) differ("the results differ", record, length);
+        }
     }
     same_reading(record, length);
     if ((reader_bench_read(record, length).count == 0) != (last_result.answer == NO_RECORD)) differ("the reading says otherwise", record, length);
@@ -103,12 +115,13 @@ static void compare_each(void) {
     printf("%zu records with a byte changed, cut short, a byte longer or a group of one child: the same from all, %zu of them accepted\n", tried, accepted);
 }
 
-// many: how often one round calls each side, for times that the clock can tell.
+// many: how often one round calls each side, for times that the clock can tell. Each question in turn, as often as the others.
 typedef struct { result result; int many; double best[SIDES]; } row;
 static row rows[ROWS];
 #define KEPT(x) __asm__ volatile("" ::"r"(&x) : "memory")
 static double calls(const named *r, int i, int many) {
     program *c = i == ONE ? side.one : i == OTHER ? side.other : side.nodes;
+    choose(r->bytes, r->length);
     double start = now();
     if (i == READ) for (int k = 0; k < many; k++) {
         uint64_t answer = ordersheet_read(r->bytes, r->length, area, sizeof area);
@@ -119,11 +132,13 @@ static double calls(const named *r, int i, int many) {
         KEPT(read);
     }
     else if (i == PRODUCT) for (int k = 0; k < many; k++) {
+        ask(k % TIMED);
         result found = side.product(r->bytes, r->length);
         KEPT(found);
     }
     else for (int k = 0; k < many; k++) {
         result found;
+        ask(k % TIMED);
         c(r->bytes, r->length, &found);
         KEPT(found);
     }
@@ -137,7 +152,7 @@ static void race(sides s, int rounds) {
         row *r = &rows[i];
         same(records[i].bytes, records[i].length);
         r->result = last_result;
-        r->many = 1 + 20000 / calls(&records[i], PRODUCT, 3);
+        r->many = TIMED * (1 + (int)(20000 / TIMED / calls(&records[i], PRODUCT, 3 * TIMED)));
         for (int j = 0; j < SIDES; j++) r->best[j] = 1e18;
     }
     compare_hours();

@@ -1,4 +1,4 @@
-// What reader/, longest/ and gangs/ read: records made from sheets, bytes that are none, and damaged records. All from fixed seeds: each run has the same.
+// What reader/, longest/, gangs/ and reason/ read: records made from sheets, bytes that are none, damaged records. All from fixed seeds: each run has the same.
 #include "../../include/ordersheet.h"
 #include <stdio.h>
 #include <stdlib.h>

@@ -1,9 +1,10 @@
-// The calls from C++: a sheet, its record read back, and the record's longest run and gangs, in full and cut off. Exit status 0: each gives what it should.
+// The calls from C++: a sheet, its record read back, and its longest run, gangs and reasons, in full and cut off. Exit status 0: each gives what it should.
 
 #include "ordersheet.h"
 
 static_assert(sizeof(ordersheet_run) == 152, "a run has 152 bytes");
 static_assert(sizeof(ordersheet_gang_plan) == 656, "a plan has 656 bytes");
+static_assert(sizeof(ordersheet_ruling) == 32, "a ruling has 32 bytes");
 
 int main()
 {
@@ -26,5 +27,17 @@ int main()
     bool two_gangs = two.answer == 0 && two.count == 2 && two.hours[0] == 3 && two.hours[1] == 7 && two.gangs[0] == 0 && two.gangs[1] == 1;
     ordersheet_gang_plan empty = ordersheet_gangs(record, ordersheet_first(answer) - 1);
     bool turned = empty.answer == 11 && empty.count == 0 && empty.hours[0] == 0 && empty.hours[ORDERSHEET_JOBS - 1] == 0 && empty.gangs[ORDERSHEET_JOBS - 1] == 0;
-    return accepted && same && orders && found && refused && parted && two_gangs && turned ? 0 : 1;
+    ordersheet_ruling forth = ordersheet_reason(record, ordersheet_first(answer), 1, 0);
+    ordersheet_ruling back = ordersheet_reason(record, ordersheet_first(answer), 0, 1);
+    bool decided = forth.answer == 0 && forth.rule == 2 && forth.position == 0 && forth.jobs == 2 && back.answer == 0 && back.rule == 3 &&
+                   back.position == 0 && back.jobs == 2;
+    ordersheet_ruling one = ordersheet_reason(again, ordersheet_first(free_answer), 1, 1);
+    ordersheet_ruling beside = ordersheet_reason(again, ordersheet_first(free_answer), 0, 1);
+    bool free = one.answer == 0 && one.rule == 1 && one.position == 2 && one.jobs == 1 && beside.answer == 0 && beside.rule == 4 && beside.position == 0 &&
+                beside.jobs == 2;
+    ordersheet_ruling no_job = ordersheet_reason(record, ordersheet_first(answer), 0, 2);
+    ordersheet_ruling no_record = ordersheet_reason(record, ordersheet_first(answer) - 1, 0, 2);
+    bool no_reason = no_job.answer == 14 && no_job.rule == 0 && no_job.position == 0 && no_job.jobs == 0 && no_record.answer == 11 && no_record.rule == 0 &&
+                     no_record.position == 0 && no_record.jobs == 0;
+    return accepted && same && orders && found && refused && parted && two_gangs && turned && decided && free && no_reason ? 0 : 1;
 }

@@ -1,4 +1,4 @@
-/* Holds the numbers of ordersheet.h, what it says of the areas, and longest runs and gangs worked by hand, to the library. Prints a line for each that is wrong, then 'N passed, M failed'. */
+/* Holds the numbers of ordersheet.h, what it says of the areas, and longest runs, gangs and reasons worked by hand, to the library. Prints a line for each that is wrong, then 'N passed, M failed'. */
 
 #define _DEFAULT_SOURCE
 #include <inttypes.h>
@@ -13,6 +13,7 @@ static uint64_t (*const analyse)(const uint8_t *, size_t, uint8_t *, size_t, uin
 static uint64_t (*const reread)(const uint8_t *, size_t, uint8_t *, size_t) = ordersheet_read;
 static ordersheet_run (*const longest_run)(const uint8_t *, size_t) = ordersheet_longest_run;
 static ordersheet_gang_plan (*const gang_plan)(const uint8_t *, size_t) = ordersheet_gangs;
+static ordersheet_ruling (*const reason)(const uint8_t *, size_t, uint16_t, uint16_t) = ordersheet_reason;
 
 enum { BEHIND = 64, FILL = 0xa5 }; /* bytes behind the longest area that stay as well, and what all are filled with */
 static char sheet[ORDERSHEET_SHEET + (1 << 16)];
@@ -118,11 +119,35 @@ static void no_gangs(const char *name, const uint8_t *bytes, size_t size)
     check(name, "refused, and the gangs are not all 0", memcmp(&plan, &none, sizeof plan) == 0);
 }
 
-/* The bytes are refused with 11 by both questions. */
+/* The reason between two jobs of the bytes is this one. */
+static void rules(const char *name, const uint8_t *bytes, size_t size, unsigned first, unsigned second, unsigned rule, unsigned position, unsigned jobs)
+{
+    char what[200];
+    ordersheet_ruling ruling = reason(bytes, size, (uint16_t)first, (uint16_t)second);
+    is(name, ruling.answer, 0, 0, 0, 0, 0);
+    snprintf(what, sizeof what, "jobs %u and %u: rule %" PRIu64 ", position %" PRIu64 ", %" PRIu64 " jobs, expected %u, %u, %u", first, second, ruling.rule,
+             ruling.position, ruling.jobs, rule, position, jobs);
+    check(name, what, ruling.rule == rule && ruling.position == position && ruling.jobs == jobs);
+}
+
+/* The two jobs of the bytes are refused so, and there is no reason. */
+static void no_reason(const char *name, const uint8_t *bytes, size_t size, unsigned first, unsigned second, unsigned number)
+{
+    const ordersheet_ruling none = {number, 0, 0, 0};
+    ordersheet_ruling ruling = reason(bytes, size, (uint16_t)first, (uint16_t)second);
+    is(name, ruling.answer, number, 0, 0, 0, 0);
+    check(name, "refused, and the reason is not all 0", memcmp(&ruling, &none, sizeof ruling) == 0);
+}
+
+/* The bytes are refused with 11 by each question, whatever jobs it names. */
 static void no_answer(const char *name, const uint8_t *bytes, size_t size)
 {
     no_run(name, bytes, size);
     no_gangs(name, bytes, size);
+    no_reason(name, bytes, size, 0, 0, 11);
+    no_reason(name, bytes, size, 0, 1, 11);
+    no_reason(name, bytes, size, ORDERSHEET_JOBS, 0, 11);
+    no_reason(name, bytes, size, 0, UINT16_MAX, 11);
 }
 
 /* The sheet is refused so with areas of these lengths, and neither area is written to. */
@@ -436,6 +461,139 @@ static void fewest_gangs(void)
     sheet_listed("gangs, the deepest tree by first children", 64, gangs);
 }
 
+/* The sheet's record has this reason between two jobs, the other way round the same with rules 2 and 3 exchanged, and stays as it is. */
+static void sheet_rules(const char *name, const char *text, unsigned first, unsigned second, unsigned rule, unsigned position, unsigned jobs)
+{
+    size_t size = recorded(name, text);
+    rules(name, record, size, first, second, rule, position, jobs);
+    rules(name, record, size, second, first, rule == 2 ? 3 : rule == 3 ? 2 : rule, position, jobs);
+    kept(name);
+}
+
+/* A job that is not below the sheet's count, as the first, as the second and as both: 14, and the record stays as it is. */
+static void sheet_lacks(const char *name, const char *text, unsigned job)
+{
+    size_t size = recorded(name, text);
+    no_reason(name, record, size, job, 0, 14);
+    no_reason(name, record, size, 0, job, 14);
+    no_reason(name, record, size, job, job, 14);
+    kept(name);
+}
+
+/* All pairs of jobs of the sheet's record, a tree as deep as 128 jobs go: each group is a job and the next group, or this and then the job. The lowest group over
+ * two jobs is that of the smaller, which has all larger ones, or of the larger, which has all smaller ones: a chain if the job is odd, or if it is even. */
+static void deepest(const char *name, int job_first, unsigned odd)
+{
+    unsigned right = 0;
+    size_t size = recorded(name, sheet);
+    for (unsigned u = 0; u < ORDERSHEET_JOBS; u++)
+        for (unsigned v = 0; v < ORDERSHEET_JOBS; v++) {
+            ordersheet_ruling ruling = reason(record, size, (uint16_t)u, (uint16_t)v), expected = {0, 1, 0, 1};
+            unsigned job = (u < v) == job_first ? u : v;
+            if (u == v) {
+                expected.position = !job_first ? ORDERSHEET_JOBS - 1 + u : u < ORDERSHEET_JOBS - 1 ? 2 * u + 1 : 2 * u;
+            } else {
+                expected.rule = job % 2 != odd ? 4 : u < v ? 2 : 3;
+                expected.position = job_first ? 2 * job : ORDERSHEET_JOBS - 1 - job;
+                expected.jobs = job_first ? ORDERSHEET_JOBS - job : job + 1;
+            }
+            right += memcmp(&ruling, &expected, sizeof ruling) == 0;
+        }
+    check(name, "some pairs of jobs have another reason", right == ORDERSHEET_JOBS * ORDERSHEET_JOBS);
+    kept(name);
+    sheet_lacks(name, sheet, ORDERSHEET_JOBS);
+}
+
+static void reasons(void)
+{
+    check("ordersheet_ruling", "a ruling has not 32 bytes", sizeof(ordersheet_ruling) == 32);
+
+    /* DESK.md's record: a side group at 0, in it a chain at 1 and job 4; in the chain job 0, a side group at 3 of jobs 1 and 2, and job 3. */
+    static const uint8_t expected[5][5][3] = {
+        {{1, 2, 1}, {2, 1, 4}, {2, 1, 4}, {2, 1, 4}, {4, 0, 5}},
+        {{3, 1, 4}, {1, 4, 1}, {4, 3, 2}, {2, 1, 4}, {4, 0, 5}},
+        {{3, 1, 4}, {4, 3, 2}, {1, 5, 1}, {2, 1, 4}, {4, 0, 5}},
+        {{3, 1, 4}, {3, 1, 4}, {3, 1, 4}, {1, 6, 1}, {4, 0, 5}},
+        {{4, 0, 5}, {4, 0, 5}, {4, 0, 5}, {4, 0, 5}, {1, 7, 1}},
+    };
+    for (unsigned u = 0; u < 5; u++)
+        for (unsigned v = 0; v < 5; v++)
+            rules("a reason, DESK.md's record", hull, sizeof hull - 1, u, v, expected[u][v][0], expected[u][v][1], expected[u][v][2]);
+    /* at the count, past it, past all jobs, and with a job's number in the last eight bits */
+    static const uint16_t no_jobs[] = {5, 6, 127, 128, 255, 256, 257, 256 + 5, 1 << 15, UINT16_MAX};
+    for (unsigned i = 0; i < sizeof no_jobs / sizeof *no_jobs; i++)
+        for (unsigned job = 0; job < 5; job++) {
+            no_reason("a reason, no first job", hull, sizeof hull - 1, no_jobs[i], job, 14);
+            no_reason("a reason, no second job", hull, sizeof hull - 1, job, no_jobs[i], 14);
+            no_reason("a reason, neither job", hull, sizeof hull - 1, no_jobs[i], no_jobs[9 - i], 14);
+            no_reason("a reason, no record and no job", hull, sizeof hull - 2, no_jobs[i], job, 11);
+            no_reason("a reason, no record and no second job", hull, sizeof hull, job, no_jobs[i], 11);
+        }
+
+    sheet_rules("a reason, one job", "1\n0\n", 0, 0, 1, 0, 1);
+    sheet_lacks("a reason, one job and another", "1\n4095\n", 1);
+    sheet_rules("a reason, job 1 before job 0", "2\n4095\n4094\n1 0\n", 1, 0, 2, 0, 2);
+    sheet_rules("a reason, job 1 before job 0", "2\n4095\n4094\n1 0\n", 1, 1, 1, 1, 1);
+    sheet_lacks("a reason, two jobs and another", "2\n4095\n4094\n1 0\n", 2);
+    sheet_rules("a reason, a chain", "3\n3\n0\n4\n2 0\n0 1\n", 2, 1, 2, 0, 3);
+    sheet_rules("a reason, neighbours in a chain", "3\n3\n0\n4\n2 0\n0 1\n", 0, 1, 2, 0, 3);
+    sheet_rules("a reason, a side group", "3\n4\n6\n5\n", 0, 2, 4, 0, 3);
+    sheet_rules("a reason, the last leaf", "3\n4\n6\n5\n", 2, 2, 1, 3, 1);
+    sheet_lacks("a reason, three jobs and another", "3\n4\n6\n5\n", 3);
+    /* A side group at 0, in it a chain at 1 and job 4; in that chain job 5, a side group at 3 and job 2; in that one job 0, and a chain at 5 of jobs 3 and 1. */
+    static const char groups[] = "6\n7\n6\n1\n2\n17\n9\n5 3\n5 0\n3 1\n1 2\n0 2\n";
+    sheet_rules("a reason, the innermost chain", groups, 3, 1, 2, 5, 2);
+    sheet_rules("a reason, a job beside a chain", groups, 0, 1, 4, 3, 3);
+    sheet_rules("a reason, the same", groups, 3, 0, 4, 3, 3);
+    sheet_rules("a reason, the outer chain", groups, 5, 2, 2, 1, 5);
+    sheet_rules("a reason, into groups", groups, 5, 1, 2, 1, 5);
+    sheet_rules("a reason, out of groups", groups, 1, 2, 2, 1, 5);
+    sheet_rules("a reason, beside all", groups, 3, 4, 4, 0, 6);
+    sheet_rules("a reason, a leaf in groups", groups, 1, 1, 1, 7, 1);
+    sheet_rules("a reason, the leaf after groups", groups, 4, 4, 1, 9, 1);
+
+    start(ORDERSHEET_JOBS);
+    for (unsigned job = 1; job < ORDERSHEET_JOBS; job++)
+        order(job, job - 1);
+    sheet_rules("a reason, the longest chain", sheet, 127, 0, 2, 0, 128);
+    sheet_rules("a reason, neighbours in the longest chain", sheet, 64, 63, 2, 0, 128);
+    sheet_rules("a reason, the last leaf of the longest chain", sheet, 0, 0, 1, 128, 1);
+    start(ORDERSHEET_JOBS);
+    sheet_rules("a reason, the widest side group", sheet, 0, 127, 4, 0, 128);
+    sheet_rules("a reason, the last leaf of the widest side group", sheet, 127, 127, 1, 128, 1);
+    sheet_lacks("a reason, 128 jobs and another", sheet, ORDERSHEET_JOBS);
+
+    /* A chain at 0 of two side groups, at 1 and at 66. */
+    start(ORDERSHEET_JOBS);
+    for (unsigned u = 0; u < 64; u++)
+        for (unsigned v = 64; v < 128; v++)
+            order(u, v);
+    sheet_rules("a reason, 64 jobs before 64", sheet, 0, 127, 2, 0, 128);
+    sheet_rules("a reason, neighbours of the 64 and 64", sheet, 63, 64, 2, 0, 128);
+    sheet_rules("a reason, two of the first 64", sheet, 0, 63, 4, 1, 64);
+    sheet_rules("a reason, two of the last 64", sheet, 127, 64, 4, 66, 64);
+    sheet_rules("a reason, the last leaf of 64 and 64", sheet, 127, 127, 1, 130, 1);
+
+    /* The deepest trees. Each even job before all later ones. */
+    start(ORDERSHEET_JOBS);
+    for (unsigned u = 0; u < 128; u += 2)
+        for (unsigned v = u + 1; v < 128; v++)
+            order(u, v);
+    deepest("a reason, the deepest tree", 1, 0);
+    /* Each odd job before all later ones. */
+    start(ORDERSHEET_JOBS);
+    for (unsigned u = 1; u < 128; u += 2)
+        for (unsigned v = u + 1; v < 128; v++)
+            order(u, v);
+    deepest("a reason, the deepest tree from a side group on", 1, 1);
+    /* Each odd job after all smaller ones: all groups stand ahead of the leaves. */
+    start(ORDERSHEET_JOBS);
+    for (unsigned v = 1; v < 128; v += 2)
+        for (unsigned u = 0; u < v; u++)
+            order(u, v);
+    deepest("a reason, the deepest tree by first children", 0, 1);
+}
+
 /* Lengths of 0 with no area, and lengths of more than 32 bits. */
 static void any_length(void)
 {
@@ -476,6 +634,7 @@ int main(void)
     no_records();
     longest_runs();
     fewest_gangs();
+    reasons();
     any_length();
     printf("%u passed, %u failed\n", passed, failed);
     return passed == 0 || failed != 0;

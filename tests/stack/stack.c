@@ -21,6 +21,8 @@ static size_t bytes;
 static uint64_t answer;
 static ordersheet_run run;
 static ordersheet_gang_plan plan;
+static ordersheet_ruling ruling;
+static uint16_t first, second;
 static ucontext_t back, there;
 static size_t most;
 static int wrong;
@@ -40,6 +42,11 @@ static void gangs(void)
 {
     plan = ordersheet_gangs(record, bytes);
     answer = plan.answer;
+}
+static void reason(void)
+{
+    ruling = ordersheet_reason(record, bytes, first, second);
+    answer = ruling.answer;
 }
 
 /* The bytes of the stack that a call writes, down to the lowest. */
@@ -82,7 +89,8 @@ static void start(unsigned jobs)
 }
 static void order(unsigned u, unsigned v) { length += (size_t)sprintf(sheet + length, "%u %u%s", u, v, end); }
 
-/* The bytes of the record area, read, for their longest run and for their gangs, each with this answer. */
+/* The bytes of the record area, read, for their longest run, for their gangs and for the reason between job 0 and the last job, each with this answer; a record
+ * also for the reason between job 0 and a job that it does not have. */
 static void offered(const char *name, unsigned number)
 {
     char text[100];
@@ -92,6 +100,15 @@ static void offered(const char *name, unsigned number)
     measure(text, longest_run, number);
     snprintf(text, sizeof text, "gangs: %s", name);
     measure(text, gangs, number);
+    first = 0;
+    second = bytes > 0 ? record[0] >> 1 : 0;
+    snprintf(text, sizeof text, "reason: %s", name);
+    measure(text, reason, number);
+    if (number != 0)
+        return;
+    second = ORDERSHEET_JOBS;
+    snprintf(text, sizeof text, "reason: %s, no such job", name);
+    measure(text, reason, 14);
 }
 
 /* The sheet, and its record, in full and cut off by a byte. */

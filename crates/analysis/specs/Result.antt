@@ -28,6 +28,7 @@ answerOf verdict.ArcRoom = answer 10 0 0 0 0
 answerOf verdict.NoRecord = answer 11 0 0 0 0
 answerOf verdict.HoursLength = answer 12 0 0 0 0
 answerOf (verdict.HoursLarge j) = answer 13 j 0 0 0
+answerOf verdict.NoJob = answer 14 0 0 0 0
 
 -- a refusal has no sequences and no hours
 abbrev pub refusal : Verdict → Analysis

@@ -23,5 +23,6 @@ pub fn numbers(verdict: Verdict) -> [usize; 5]
         Verdict::NoRecord => [11, 0, 0, 0, 0],
         Verdict::HoursLength => [12, 0, 0, 0, 0],
         Verdict::HoursLarge(j) => [13, j, 0, 0, 0],
+        Verdict::NoJob => [14, 0, 0, 0, 0],
     }
 }

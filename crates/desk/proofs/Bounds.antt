@@ -25,6 +25,8 @@ use Rattle.longest.specs.Outcome.{runOutcome}
 use Rattle.longest.proofs.Records.{run-verdict}
 use Rattle.gangs.specs.Outcome.{gangOutcome}
 use Rattle.gangs.proofs.Records.{gangs-verdict}
+use Rattle.reason.specs.Outcome.{ReasonOutcome, treeReason, reasonOutcome}
+use Rattle.reason.proofs.Records.{Ways, no-record, no-job, reasoned, reason-ways}
 use Rattle.desk.proofs.Packing.{Narrow}
 
 -- a refusal that names one place at most
@@ -120,7 +122,7 @@ record-told room bytes (read {n = n} {t = t} {hours = hours} r l) =
 pub record-narrow : (room : ℕ) (bytes : List ℕ) → AllBelow 256 bytes → Narrow (recordOutcome room bytes .verdict)
 record-narrow room bytes below = record-told room bytes (record-fate room bytes below)
 
--- questions to a record: 0 or 11, and no place
+-- questions to a record: 0, 11 or 14, and no place
 
 answer-narrow : (a : Answer) → (a ≡ answer 0 0 0 0 0) ⊎ (a ≡ answer 11 0 0 0 0) → Narrow a
 unfolding refuse
@@ -132,3 +134,12 @@ run-narrow bytes = answer-narrow (runOutcome bytes .verdict) (run-verdict bytes)
 
 pub gangs-narrow : (bytes : List ℕ) → Narrow (gangOutcome bytes .verdict)
 gangs-narrow bytes = answer-narrow (gangOutcome bytes .verdict) (gangs-verdict bytes)
+
+ways-narrow : (u v : ℕ) {o : ReasonOutcome} → Ways u v o → Narrow (o .verdict)
+unfolding refuse treeReason
+ways-narrow u v (no-record e) = rw e (one-place 11 0 (omega arith) (omega arith))
+ways-narrow u v (no-job e) = rw e (one-place 14 0 (omega arith) (omega arith))
+ways-narrow u v (reasoned t e) = rw e (one-place 0 0 (omega arith) (omega arith))
+
+pub reason-narrow : (bytes : List ℕ) (u v : ℕ) → Narrow (reasonOutcome bytes u v .verdict)
+reason-narrow bytes u v = ways-narrow u v (reason-ways u v bytes)

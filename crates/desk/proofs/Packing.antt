@@ -1,6 +1,6 @@
 -- Narrow answers, and a packed number taken apart.
-use Prim.Native.Nat.{ℕ, _+_, _*_, _/_, _%_, _<_}
-use mathlib.Core.Path.{_≡_, refl}
+use Prim.Native.Nat.{ℕ, _<_}
+use mathlib.Core.Path.{_≡_}
 use native.Mathlib.Omega.{arith}
 use Rattle.analysis.specs.Answer.{Answer, answer}
 use Rattle.desk.specs.Packed.{packed, unpacked, cut}

@@ -1,4 +1,4 @@
--- What an analysis gives, told as one number, a longest run, and gangs.
+-- What an analysis gives, told as one number, a longest run, gangs, and a reason.
 use Prim.Native.Nat.{ℕ}
 use mathlib.Core.Path.{_≡_, ap, _∙_}
 use mathlib.Core.List.{List}
@@ -12,7 +12,9 @@ use Rattle.longest.specs.Outcome.{RunOutcome, Shows as ShowsRun}
 use Rattle.longest.specs.declared.LongestRun.{LongestRun}
 use Rattle.gangs.specs.Outcome.{GangOutcome, Shows as ShowsGangs}
 use Rattle.gangs.specs.declared.GangPlan.{GangPlan}
-use Rattle.desk.specs.Told.{Told, RunTold, GangsTold}
+use Rattle.reason.specs.Outcome.{ReasonOutcome, Shows as ShowsReason}
+use Rattle.reason.specs.declared.Reason.{Reason}
+use Rattle.desk.specs.Told.{Told, RunTold, GangsTold, ReasonTold}
 use Rattle.desk.proofs.Packing.{Narrow, cut-narrow}
 
 -- an answer read from its number and places in a row
@@ -53,4 +55,13 @@ tells-gangs s w h = record {
   count-is = s .count-is;
   hours-are = s .hours-are;
   gangs-are = s .gangs-are;
+}
+
+pub tells-reason : {o : ReasonOutcome} {a : Reason} {r : ℕ} → ShowsReason o a → Narrow (o .verdict) → r ≡ packed (cut (answerOf (a .verdict)))
+    → ReasonTold o (record { answer = r; rule = a .rule; position = a .position; jobs = a .jobs })
+tells-reason s w h = record {
+  answers = answer-told (s .answers) w h;
+  rule-is = s .rule-is;
+  position-is = s .position-is;
+  jobs-are = s .jobs-are;
 }

@@ -6,8 +6,9 @@ use Rattle.record.specs.Bits.{AllBelow}
 use Rattle.analysis.specs.Outcome.{Rooms, sheetOutcome, recordOutcome}
 use Rattle.longest.specs.Outcome.{runOutcome}
 use Rattle.gangs.specs.Outcome.{gangOutcome}
+use Rattle.reason.specs.Outcome.{reasonOutcome}
 use Rattle.desk.specs.Packed.{packed, unpacked}
-use Rattle.desk.proofs.Bounds.{sheet-narrow, record-narrow, run-narrow, gangs-narrow}
+use Rattle.desk.proofs.Bounds.{sheet-narrow, record-narrow, run-narrow, gangs-narrow, reason-narrow}
 use Rattle.desk.proofs.Packing.{unpacked-packed}
 
 pub unpacked-sheet : (rooms : Rooms) (s : List ℕ) → unpacked (packed (sheetOutcome rooms s .verdict)) ≡ sheetOutcome rooms s .verdict
@@ -22,3 +23,6 @@ unpacked-run bytes = unpacked-packed (runOutcome bytes .verdict) (run-narrow byt
 
 pub unpacked-gangs : (bytes : List ℕ) → unpacked (packed (gangOutcome bytes .verdict)) ≡ gangOutcome bytes .verdict
 unpacked-gangs bytes = unpacked-packed (gangOutcome bytes .verdict) (gangs-narrow bytes)
+
+pub unpacked-reason : (bytes : List ℕ) (u v : ℕ) → unpacked (packed (reasonOutcome bytes u v .verdict)) ≡ reasonOutcome bytes u v .verdict
+unpacked-reason bytes u v = unpacked-packed (reasonOutcome bytes u v .verdict) (reason-narrow bytes u v)

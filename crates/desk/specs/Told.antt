@@ -7,8 +7,10 @@ use Rattle.poset.specs.Areas.{overlay, padded, arcBytes}
 use Rattle.analysis.specs.Outcome.{Outcome}
 use Rattle.longest.specs.Outcome.{RunOutcome}
 use Rattle.gangs.specs.Outcome.{GangOutcome}
+use Rattle.reason.specs.Outcome.{ReasonOutcome}
 use Rattle.desk.specs.Packed.{packed}
 use Rattle.desk.specs.declared.Plan.{Plan}
+use Rattle.desk.specs.declared.Reason.{Reason}
 use Rattle.desk.specs.declared.Run.{Run}
 
 -- the answer as one number, and both areas after the call
@@ -30,3 +32,10 @@ pub record GangsTold (o : GangOutcome) (r : Plan) : Type 0 where
   pub count-is : r .count ≡ o .count
   pub hours-are : r .hours ≡ padded (o .hours)
   pub gangs-are : r .gangs ≡ padded (o .gangs)
+
+-- the answer as one number, the rule, the position and how many jobs
+pub record ReasonTold (o : ReasonOutcome) (r : Reason) : Type 0 where
+  pub answers : r .answer ≡ packed (o .verdict)
+  pub rule-is : r .rule ≡ o .rule
+  pub position-is : r .position ≡ o .position
+  pub jobs-are : r .jobs ≡ o .jobs

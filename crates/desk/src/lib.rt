@@ -7,7 +7,8 @@ ghost use Rattle.analysis.specs.Outcome.{sheetOutcome, recordOutcome};
 ghost use Rattle.analysis.specs.Result.{rooms};
 ghost use Rattle.longest.specs.Outcome.{runOutcome};
 ghost use Rattle.gangs.specs.Outcome.{gangOutcome};
-ghost use Rattle.desk.specs.Told.{Told, RunTold, GangsTold};
+ghost use Rattle.reason.specs.Outcome.{reasonOutcome};
+ghost use Rattle.desk.specs.Told.{Told, RunTold, GangsTold, ReasonTold};
 
 // The analysis of a sheet: the record and the reduced orders into the two areas.
 #[no_mangle]
@@ -79,5 +80,29 @@ pub extern "C" fn ordersheet_gangs(bytes: &[u8]) -> Plan
         count: plan.count as u64,
         hours,
         gangs,
+    }
+}
+
+// The reason: the answer, the rule, the position of the lowest group over both jobs, and how many jobs are under it.
+#[repr(C)]
+pub struct Reason {
+    pub answer: u64,
+    pub rule: u64,
+    pub position: u64,
+    pub jobs: u64,
+}
+
+// The reason between two jobs of a record.
+#[no_mangle]
+pub extern "C" fn ordersheet_reason(bytes: &[u8], first: u16, second: u16) -> Reason
+    ensures { λ r. ⌜ ReasonTold (reasonOutcome (now (bytes .entry)) first second) r ⌝ }
+{
+    let found = reason::reason_between(bytes, first, second);
+    let verdict = found.verdict;
+    Reason {
+        answer: answer::packed(verdict),
+        rule: found.rule as u64,
+        position: found.position as u64,
+        jobs: found.jobs as u64,
     }
 }

@@ -11,9 +11,9 @@ use Rattle.poset.specs.Tree.{Kind, series, Tree, leaf, node, Forest, last, more
 use Rattle.poset.proofs.Laws.{keep-yes, keep-not}
 use Rattle.relation.proofs.Lists.{keep-append}
 use Rattle.record.specs.Layout.{kindBit, moreChildren}
-use Rattle.record.specs.Tokens.{tokens, forestTokens, groupToken, nodeRoom}
+use Rattle.record.specs.Tokens.{tokens, forestTokens, groupToken}
 use Rattle.record.proofs.Sizes.{Small, small-left, small-right, groups-lt}
-use Rattle.record.proofs.Tokens.{tokens-few, tokens-length}
+use Rattle.record.proofs.Tokens.{tokens-length}
 use Rattle.record.proofs.Entries.{entry-padded}
 use Rattle.reader.specs.Nodes.{Listed}
 use Rattle.gangs.specs.Gangs.{gangCount}
@@ -47,9 +47,6 @@ mutual
   forest-leaves (more t f) small = both-leaves (tokens t) (forestTokens f) (λ h. token-leaves t h) (λ h. forest-leaves f h) small
 
 module _ (t : Tree) (list : List ℕ) (count : ℕ) (l : Listed t list count) (jobs : List ℕ) where
-  pub nodes-few : count ≤ nodeRoom
-  nodes-few = omega (arith, l .number, tokens-few t (l .small))
-
   -- the node at i, and those after it
   pub ready-node : (h : Held) (p : Place) (i : ℕ) (gangs hours : List ℕ) → i < count → (x : ℕ) → x ≡ getD list i 0
       → Ready t jobs h p (drop i (tokens t)) gangs hours → Ready t jobs h p (x ∷ drop (i + 1) (tokens t)) gangs hours

@@ -1,7 +1,7 @@
 -- From place to place: a group is opened, a child is done, the next begins, the group around is gone on with.
 use Prim.Native.Nat.{ℕ, suc, _+_, _*_, _%_, _≤_, _<_, max}
 use mathlib.Core.Path.{_≡_, refl, sym, ap, subst, _∙_}
-use mathlib.Core.List.{List, [], _∷_, _++_, flatMap, append-nil, append-assoc, List·Memᴰ, Memᴰ·append-left, Memᴰ·append-right}
+use mathlib.Core.List.{List, [], _∷_, _++_, flatMap, append-assoc, List·Memᴰ, Memᴰ·append-left, Memᴰ·append-right}
 use borrow.Author.Tests.{lt-ltb, le-ltb}
 use native.Mathlib.Omega.{arith}
 use lib.ListN.{length, getD, set, length-set}
@@ -10,7 +10,7 @@ use Rattle.poset.specs.Lists.{occurrences, sum}
 use Rattle.poset.specs.Tree.{Kind, series, parallel, Tree, leaf, node, Forest, last, more, trees, leaves, forestLeaves, groups, forestGroups}
 use Rattle.poset.proofs.Laws.{count-append, mem-count}
 use Rattle.record.specs.Layout.{kindBit, moreChildren}
-use Rattle.record.specs.Tokens.{groupToken, tokens, forestTokens}
+use Rattle.record.specs.Tokens.{groupToken, tokens}
 use Rattle.record.proofs.Sizes.{Small, small-left, small-right, trees-length}
 use Rattle.record.proofs.Tokens.{children-few}
 use Rattle.gangs.specs.Gangs.{joinedGangs, gangsFrom, gangCount, forestGangCount, gang, forestGang}
@@ -19,13 +19,7 @@ use Rattle.gangs.specs.Places.{InGroup, Done, Begun, At, begins, ended, 
 use Rattle.gangs.specs.declared.numbering.Place.{Place}
 use Rattle.gangs.proofs.Fewest.{gang-left, gang-right}
 
--- the trees of a forest
-
-pub trees-tokens : (f : Forest) → flatMap tokens (trees f) ≡ forestTokens f
-unfolding trees flatMap
-trees-tokens (last t) = append-nil (tokens t)
-trees-tokens (more t f) = ap (λ (l : List ℕ). tokens t ++ l) (trees-tokens f)
-
+-- the groups of a forest, tree by tree
 trees-groups : (f : Forest) → sum groups (trees f) ≡ forestGroups f
 unfolding trees groups
 trees-groups (last t) = omega arith

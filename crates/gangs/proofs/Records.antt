@@ -17,7 +17,7 @@ use Rattle.record.specs.Layout.{mostHours, hoursOf, IsRecord}
 use Rattle.record.proofs.Entries.{made, length-below, hours-most}
 use Rattle.record.proofs.Sizes.{length-leaves}
 use Rattle.analysis.specs.Answer.{answer}
-use Rattle.analysis.proofs.Asked.{Question, ask-verdict, ask-told}
+use Rattle.analysis.proofs.Asked.{Answered, question, ask-verdict, ask-told}
 use Rattle.gangs.specs.Antichains.{IsFewest, AreLoads}
 use Rattle.gangs.specs.Gangs.{gangCount, gang, gangHours}
 use Rattle.gangs.specs.Outcome.{GangOutcome, gangOutcome, IsPlan}
@@ -37,7 +37,7 @@ treeGangs n t hours =
       gangs = map (gang t) (below n);
     }
 
-abbrev pub plans : Question GangOutcome
+abbrev pub plans : Answered GangOutcome
 plans = record { refused = noGangs; told = treeGangs; verdict = λ o. o .verdict; refuses = refl; accepts = λ n t hours. refl }
 
 pub gangs-verdict : (bytes : List ℕ) → (gangOutcome bytes .verdict ≡ answer 0 0 0 0 0) ⊎ (gangOutcome bytes .verdict ≡ answer 11 0 0 0 0)
@@ -46,7 +46,7 @@ gangs-verdict = ask-verdict plans
 
 pub gangs-told : (bytes : List ℕ) (n : ℕ) (t : Tree) (hours : List ℕ) → IsRecord bytes n t hours → gangOutcome bytes ≡ treeGangs n t hours
 unfolding gangOutcome
-gangs-told = ask-told plans
+gangs-told = ask-told (question plans)
 
 -- what holds of gangs and of loads holds of others that are the same below n and below the count
 

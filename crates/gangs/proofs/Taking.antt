@@ -19,11 +19,12 @@ use Rattle.record.specs.Layout.{hoursBits, mostHours, hoursOf, moreChildren}
 use Rattle.record.specs.Tokens.{groupToken, tokens, forestTokens}
 use Rattle.record.proofs.Entries.{hours-most}
 use Rattle.record.proofs.Sizes.{Small, kind-below}
+use Rattle.reader.proofs.Pending.{trees-tokens}
 use Rattle.gangs.specs.Gangs.{gang}
 use Rattle.gangs.specs.Places.{Open, Held, held, toCome, Done, Begun, At, begins, ended, isLeaf, loadOf, Written, Ready}
 use Rattle.gangs.specs.declared.numbering.Place.{Place}
 use Rattle.gangs.proofs.Fewest.{gang-below, count-short, loads-most}
-use Rattle.gangs.proofs.Placing.{leaf-done, room, within, few-children, group-begins, trees-tokens}
+use Rattle.gangs.proofs.Placing.{leaf-done, room, within, few-children, group-begins}
 
 -- the tree that begins, by its first node
 

@@ -13,7 +13,7 @@ use Rattle.record.specs.Layout.{mostHours, hoursOf, IsRecord}
 use Rattle.sheet.specs.Text.{LineForm}
 use Rattle.analysis.specs.Answer.{answer}
 use Rattle.analysis.specs.Outcome.{Rooms, sheetOutcome, pairOutcome}
-use Rattle.analysis.proofs.Asked.{ask-refused, ask-empty, ask-unyielded}
+use Rattle.analysis.proofs.Asked.{question, ask-refused, ask-empty, ask-unyielded}
 use Rattle.analysis.proofs.Demands.{yield-sheet, yield-pairs}
 use Rattle.gangs.specs.Antichains.{IsFewest, AreLoads}
 use Rattle.gangs.specs.Gangs.{gangCount, gang, gangHours}
@@ -68,7 +68,7 @@ pub gangs-refused
     : (bytes : List ℕ) → AllBelow 256 bytes
     → (gangOutcome bytes .verdict .number ≡ 11) ↔ ((n : ℕ) (t : Tree) (hours : List ℕ) → IsRecord bytes n t hours → ⊥)
 unfolding gangOutcome
-gangs-refused = ask-refused plans
+gangs-refused = ask-refused (question plans)
 
 pub gangs-empty
     : (bytes : List ℕ) → gangOutcome bytes .verdict .number ≢ 0
@@ -109,7 +109,7 @@ pub sheet-refused
     → (gangOutcome bytes .verdict .number ≡ 11)
     ↔ ((rooms : Rooms) (s : List ℕ) → sheetOutcome rooms s .verdict .number ≡ 0 → sheetOutcome rooms s .bytes ≡ bytes → ⊥)
 unfolding gangOutcome
-sheet-refused = ask-unyielded plans
+sheet-refused = ask-unyielded (question plans)
 
 pub sheet-plan
     : (rooms : Rooms) (s : List ℕ) → sheetOutcome rooms s .verdict .number ≡ 0

@@ -3,7 +3,7 @@ pub mod Measures
 pub mod Entries
 pub mod Folding
 pub mod Stacking
-pub mod Pending
+pub mod Rows
 pub mod Listing
 pub mod Answering
 pub mod Records

@@ -10,7 +10,7 @@ use Rattle.record.specs.Layout.{mostHours, hoursOf, IsRecord}
 use Rattle.record.proofs.Entries.{hours-most}
 use Rattle.record.proofs.Sizes.{length-leaves}
 use Rattle.analysis.specs.Answer.{answer}
-use Rattle.analysis.proofs.Asked.{Question, ask-verdict, ask-told}
+use Rattle.analysis.proofs.Asked.{Answered, question, ask-verdict, ask-told}
 use Rattle.longest.specs.Chains.{IsLongest}
 use Rattle.longest.specs.Longest.{longest}
 use Rattle.longest.specs.Outcome.{RunOutcome, runOutcome}
@@ -25,7 +25,7 @@ noRun = record { verdict = answer 11 0 0 0 0; total = 0; jobs = [] }
 abbrev treeRun : ℕ → Tree → List ℕ → RunOutcome
 treeRun n t hours = let run = longest (hoursOf hours) t in record { verdict = answer 0 0 0 0 0; total = run .0; jobs = run .1 }
 
-abbrev pub runs : Question RunOutcome
+abbrev pub runs : Answered RunOutcome
 runs = record { refused = noRun; told = treeRun; verdict = λ o. o .verdict; refuses = refl; accepts = λ n t hours. refl }
 
 pub run-verdict : (bytes : List ℕ) → (runOutcome bytes .verdict ≡ answer 0 0 0 0 0) ⊎ (runOutcome bytes .verdict ≡ answer 11 0 0 0 0)
@@ -34,7 +34,7 @@ run-verdict = ask-verdict runs
 
 pub run-told : (bytes : List ℕ) (n : ℕ) (t : Tree) (hours : List ℕ) → IsRecord bytes n t hours → runOutcome bytes ≡ treeRun n t hours
 unfolding runOutcome
-run-told = ask-told runs
+run-told = ask-told (question runs)
 
 -- the run of a record, in the order that its tree means
 

@@ -5,16 +5,17 @@ use mathlib.Core.List.{List, [], _∷_, _++_, map, flatMap, List·Memᴰ·head, 
 use native.Mathlib.Omega.{arith}
 use lib.ListN.{length, set, length-append, length-map}
 use Rattle.poset.specs.Lists.{occurrences}
-use Rattle.poset.specs.Tree.{Kind, series, parallel, Tree, leaf, node, Forest, last, more, leaves, forestLeaves, trees}
+use Rattle.poset.specs.Tree.{Kind, series, parallel, Tree, leaf, node, Forest, last, more, leaves, trees}
 use Rattle.poset.proofs.Laws.{count-append, mem-count, count-mem}
 use Rattle.poset.proofs.Shape.{trees-leaves}
 use Rattle.record.specs.Layout.{mostHours, kindBit, moreChildren}
-use Rattle.record.proofs.Sizes.{kind-below, trees-length, groups-lt, small-left}
-use Rattle.record.proofs.Tokens.{children-few}
+use Rattle.record.proofs.Sizes.{kind-below, trees-length}
+use Rattle.reader.specs.Nodes.{Step, one-leaf, one-group, Fits}
 use Rattle.reader.specs.Parts.{alone}
+use Rattle.reader.proofs.Pending.{row-length, few-children}
 use Rattle.record.specs.Tokens.{groupToken}
 use Rattle.longest.specs.Longest.{WorkRun, joinedRuns, longest}
-use Rattle.longest.specs.Stack.{Step, one-leaf, one-group, Fits, Runs, runs, Entry, Entries, runOf, Beside, Joined, Stacked}
+use Rattle.longest.specs.Stack.{Runs, runs, Entry, Entries, runOf, Beside, Joined, Stacked}
 use Rattle.longest.proofs.Measures.{runs-small, runs-of-leaves}
 use Rattle.longest.proofs.Entries.{entries-kept, entries-append, entry-put}
 
@@ -23,12 +24,6 @@ group-run : (hours : ℕ → ℕ) (k : Kind) (t : Tree) (f : Forest) → runOf k
 unfolding longest trees
 group-run hours k t (last s) = refl
 group-run hours k t (more s f) = ap (joinedRuns k (longest hours t)) (group-run hours k s f)
-
--- every tree of a row has a leaf
-row-length : (ts : List Tree) → length ts ≤ length (flatMap leaves ts)
-unfolding flatMap
-row-length [] = omega arith
-row-length (t ∷ ts) = omega (arith, row-length ts, groups-lt t, length-append (leaves t) (flatMap leaves ts))
 
 module _ (hours : ℕ → ℕ) (top : ℕ) (w : Runs) where
   -- a leaf's run on top
@@ -113,10 +108,6 @@ module _ (hours : ℕ → ℕ) (top : ℕ) (w : Runs) where
         }
 
 -- any node
-
-few-children : (k : Kind) (t : Tree) (f : Forest) (rest : List Tree) → Fits (node k t f ∷ rest) → moreChildren f < 128
-unfolding leaves flatMap
-few-children k t f rest fits = children-few t f (small-left (leaves t ++ forestLeaves f) (flatMap leaves rest) (fits .small))
 
 -- what is seen of a group's token
 abbrev pub IsGroup : Kind → ℕ → Type 0

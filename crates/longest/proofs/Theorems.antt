@@ -12,7 +12,7 @@ use Rattle.record.specs.Layout.{mostHours, hoursOf, IsRecord}
 use Rattle.sheet.specs.Text.{LineForm}
 use Rattle.analysis.specs.Answer.{answer}
 use Rattle.analysis.specs.Outcome.{Rooms, sheetOutcome, pairOutcome}
-use Rattle.analysis.proofs.Asked.{ask-refused, ask-empty, ask-unyielded}
+use Rattle.analysis.proofs.Asked.{question, ask-refused, ask-empty, ask-unyielded}
 use Rattle.analysis.proofs.Demands.{yield-sheet, yield-pairs}
 use Rattle.longest.specs.Chains.{IsLongest}
 use Rattle.longest.specs.Longest.{longest, FirstGreatest}
@@ -52,7 +52,7 @@ pub run-refused
     : (bytes : List ℕ) → AllBelow 256 bytes
     → (runOutcome bytes .verdict .number ≡ 11) ↔ ((n : ℕ) (t : Tree) (hours : List ℕ) → IsRecord bytes n t hours → ⊥)
 unfolding runOutcome
-run-refused = ask-refused runs
+run-refused = ask-refused (question runs)
 
 pub run-empty
     : (bytes : List ℕ) → runOutcome bytes .verdict .number ≢ 0 → runOutcome bytes ≡ record { verdict = answer 11 0 0 0 0; total = 0; jobs = [] }
@@ -83,7 +83,7 @@ pub sheet-refused
     → (runOutcome bytes .verdict .number ≡ 11)
     ↔ ((rooms : Rooms) (s : List ℕ) → sheetOutcome rooms s .verdict .number ≡ 0 → sheetOutcome rooms s .bytes ≡ bytes → ⊥)
 unfolding runOutcome
-sheet-refused = ask-unyielded runs
+sheet-refused = ask-unyielded (question runs)
 
 pub sheet-longest
     : (rooms : Rooms) (s : List ℕ) → sheetOutcome rooms s .verdict .number ≡ 0

@@ -3,29 +3,19 @@
 -- the proofs' form of leaves that fit a record.
 use Prim.Native.Nat.{ℕ, suc, _+_, _*_, _≤_, _<_}
 use mathlib.Core.Path.{_≡_}
-use mathlib.Core.List.{List, [], _∷_, _++_, map, flatMap, List·Memᴰ}
+use mathlib.Core.List.{List, [], _∷_, map, flatMap, List·Memᴰ}
 use lib.ListN.{length, getD}
 use Rattle.poset.specs.Lists.{occurrences, sum}
 use Rattle.poset.specs.Areas.{padded}
-use Rattle.poset.specs.Tree.{Kind, Tree, leaf, node, Forest, leaves, trees}
+use Rattle.poset.specs.Tree.{Kind, Tree}
 use Rattle.record.specs.Bits.{AllBelow}
-use Rattle.record.specs.Layout.{mostHours, moreChildren}
+use Rattle.record.specs.Layout.{mostHours}
 use Rattle.record.proofs.Sizes.{Small}
+use Rattle.reader.specs.Nodes.{Step, Fits}
 use Rattle.reader.specs.Parts.{Strand}
-use Rattle.record.specs.Tokens.{groupToken}
 use Rattle.longest.specs.Longest.{WorkRun, joinedRuns, longest}
 use Rattle.longest.specs.declared.stack.Run.{Run}
 use Rattle.longest.specs.declared.showing.Showing.{Showing}
-
--- the trees in a row after a node more is taken, from the right: a leaf is one tree more, a group takes the place of its children
-pub data Step : ℕ → List Tree → List Tree → Type 0 where
-  one-leaf : {ts : List Tree} (j : ℕ) → Step j ts (leaf j ∷ ts)
-  one-group : {rest : List Tree} (k : Kind) (t : Tree) (f : Forest) → Step (groupToken k (moreChildren f)) (t ∷ trees f ++ rest) (node k t f ∷ rest)
-
--- no job stands twice in the trees, and they fit a record
-pub record Fits (ts : List Tree) : Type 0 where
-  pub once : (u : ℕ) → occurrences u (flatMap leaves ts) ≤ 1
-  pub small : Small (flatMap leaves ts)
 
 -- the stack's lists, from its top on: the total, the first and the last job of each run; and for each job the one after it in its run
 pub record Runs : Type 0 where

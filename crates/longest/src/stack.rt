@@ -8,9 +8,9 @@ ghost use lib.ListN.{length};
 ghost use Rattle.poset.specs.Tree.{series, parallel, Tree};
 ghost use Rattle.record.specs.Bits.{AllBelow};
 ghost use Rattle.record.specs.Layout.{hoursBits, hoursOf};
-ghost use Rattle.reader.specs.Nodes.{Listed};
+ghost use Rattle.reader.specs.Nodes.{Listed, Step, Fits};
 ghost use Rattle.longest.specs.Longest.{WorkRun, longest};
-ghost use Rattle.longest.specs.Stack.{runs, Beside, Joins, Step, Fits, Stacked, Stacks, Found};
+ghost use Rattle.longest.specs.Stack.{runs, Beside, Joins, Stacked, Stacks, Found};
 
 // The hours together, and the ends of the run.
 pub struct Run {

@@ -1,18 +1,16 @@
 -- What a tree says, by recursion over it: which jobs it holds, that it holds each once, and how the jobs of two of its children stand.
 -- A group is a first child t and a forest f of the others, and so is a forest of two or more: what holds of one holds of both.
-use Prim.Native.Nat.{ℕ, zero, suc, _+_, _≤_, _<_}
-use mathlib.Core.Path.{_≡_, refl, sym, ap, ap₂, subst, _∙_}
-use mathlib.Core.List.{List, [], _∷_, _++_, flatMap, append-nil, List·Memᴰ, List·Memᴰ·head, List·Memᴰ·eq-of-singleton}
+use Prim.Native.Nat.{ℕ, _+_}
+use mathlib.Core.Path.{_≡_, refl, sym, ap, _∙_}
+use mathlib.Core.List.{List, _++_, flatMap, append-nil, List·Memᴰ, List·Memᴰ·head, List·Memᴰ·eq-of-singleton}
 use mathlib.Core.List.{Memᴰ·append-left, Memᴰ·append-right, List·Memᴰ·append-cases}
-use mathlib.Core.Bool.{Bool, true, false, _&&_, _||_, not, cond}
-use mathlib.Core.Logic.{_⊎_, inl, inr, ⊎-elim, _↔_}
-use lib.Dec.{eqb, ltb, T, lt→ltb, ltb→lt}
-use native.Mathlib.Omega.{arith}
-use Rattle.poset.specs.Lists.{member, occurrences}
-use Rattle.poset.specs.Order.{Rel, comparable, incomparable}
+use mathlib.Core.Bool.{true, false, _||_}
+use mathlib.Core.Logic.{_⊎_, inl, inr, ⊎-elim}
+use Rattle.poset.specs.Lists.{member}
+use Rattle.poset.specs.Order.{Rel}
 use Rattle.poset.specs.Tree.{Kind, series, parallel, Tree, leaf, node, Forest, last, more}
 use Rattle.poset.specs.Tree.{trees, leaves, forestLeaves, across, precedes, forestPrecedes}
-use Rattle.poset.proofs.Standing.{near, other, Stands, isSeries, near-sym, stands-near, stands-apart, stands-differ}
+use Rattle.poset.proofs.Standing.{Stands, isSeries, stands-differ}
 use Rattle.poset.proofs.Laws.{clash, false-unless, and-left, and-right, and-intro, or-cases, or-left, or-middle, or-last, member-mem, mem-member}
 
 -- the jobs of a tree
@@ -60,10 +58,17 @@ mutual
   forestLeaves-in (last t) m = leaves-in t m
   forestLeaves-in (more t f) m = append-in (leaves t) (λ h. leaves-in t h) (λ h. forestLeaves-in f h) m
 
+-- of lists for each tree, those for the trees of a forest, joined, are the forest's
+
+pub trees-row : {A : Type 0} (g : Tree → List A) (h : Forest → List A) → ((t : Tree) → h (last t) ≡ g t)
+    → ((t : Tree) (f : Forest) → h (more t f) ≡ g t ++ h f) → (f : Forest) → flatMap g (trees f) ≡ h f
+unfolding trees flatMap
+trees-row g h one many (last t) = append-nil (g t) ∙ sym (one t)
+trees-row {A} g h one many (more t f) = ap (λ (l : List A). g t ++ l) (trees-row g h one many f) ∙ sym (many t f)
+
 pub trees-leaves : (f : Forest) → flatMap leaves (trees f) ≡ forestLeaves f
-unfolding trees leaves flatMap
-trees-leaves (last t) = append-nil (leaves t)
-trees-leaves (more t f) = ap (λ (l : List ℕ). leaves t ++ l) (trees-leaves f)
+unfolding leaves
+trees-leaves = trees-row leaves forestLeaves (λ t. refl) (λ t f. refl)
 
 -- a tree holds some job
 pub someIn : (t : Tree) → (u : ℕ) × In t u

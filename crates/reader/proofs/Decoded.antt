@@ -29,6 +29,7 @@ pub record Decoded (bytes : List ℕ) (x : NodeList) : Type 0 where
   pub hours : List ℕ
   pub decodes : decode bytes ≡ some (jobs, tree, hours)
   pub spells : IsRecord bytes jobs tree hours
+  pub jobs-are : x .jobs ≡ jobs
   pub count-is : x .count ≡ length (tokens tree)
   pub tokens-are : x .tokens ≡ listing (tokens tree)
   pub hours-are : x .hours ≡ padded hours
@@ -46,6 +47,7 @@ module _ (bytes : List ℕ) (x : NodeList) (reads : x ≡ nodes (decode bytes)) 
             hours = hours;
             decodes = e;
             spells = layout-decode bytes n t hours small e;
+            jobs-are = ap (λ (r : NodeList). r .jobs) h;
             count-is = ap (λ (r : NodeList). r .count) h;
             tokens-are = ap (λ (r : NodeList). r .tokens) h;
             hours-are = ap (λ (r : NodeList). r .hours) h;

@@ -18,5 +18,6 @@ pub mod Hours
 pub mod Realized
 pub mod Whole
 pub mod Listed
+pub mod Pending
 pub mod Gives
 pub mod Decoded

@@ -3,7 +3,9 @@
 use crate::ffi::{self, Areas};
 use crate::generate::{damages, list};
 use crate::lent::Lent;
+use crate::reason::some_pairs;
 use second::joins::Joins;
+use second::tree::Tree;
 use second::{packed, Outcome};
 use std::collections::{BTreeMap, HashSet};
 use std::fmt::{Debug, Write};
@@ -167,8 +169,10 @@ pub struct Tally {
     pub failed: u64,
     /// Inputs of each family, and of those the answers by number.
     pub families: BTreeMap<&'static str, [u64; 14]>,
-    /// Questions to a record, accepted and refused.
+    /// Records that were asked for their plans, and bytes that are none.
     pub questions: [u64; 2],
+    /// Pairs of job numbers asked for their reason: of each rule, refused by 14, by 11.
+    pub reasons: [u64; 6],
     /// Calls for a count of joins: without a circle, with one, refused.
     pub joins: [u64; 3],
     distinct: HashSet<u64>,
@@ -186,6 +190,9 @@ impl Tally {
             }
         }
         for (sum, calls) in self.questions.iter_mut().zip(other.questions) {
+            *sum += calls;
+        }
+        for (sum, calls) in self.reasons.iter_mut().zip(other.reasons) {
             *sum += calls;
         }
         for (sum, calls) in self.joins.iter_mut().zip(other.joins) {
@@ -276,10 +283,20 @@ impl Tally {
     }
 
     /// Holds the questions to a record, or of bytes that are none, against `second`: its
-    /// longest run and its gangs; counts one input.
+    /// longest run, its gangs and some reasons; counts one input.
     pub fn compare_questions(&mut self, record: &[u8]) {
         let held = self.questions(record);
         self.settle(("questions", record), held);
+    }
+
+    /// Holds the reasons between these pairs of job numbers against `second`, in a record
+    /// or in bytes that are none; counts one input. Whether it is a record.
+    pub fn compare_reasons(&mut self, record: &[u8], pairs: &[(u16, u16)]) -> bool {
+        let read = second::record::read(record);
+        let number = if read.is_some() { 0 } else { 11 };
+        let wrong = self.reasons(record, read.as_ref(), pairs);
+        self.settle(("reasons", record, pairs), (number, wrong));
+        read.is_some()
     }
 
     /// Holds the joins of a pair list against `second`; counts one input.
@@ -412,8 +429,8 @@ impl Tally {
         Some(report)
     }
 
-    /// One call for each plan of the record: the number that `second` gives, and what
-    /// is wrong with a call, if anything.
+    /// One call for each plan of the record and for some reasons: the number that
+    /// `second` gives, and what is wrong with a call, if anything.
     fn questions(&mut self, record: &[u8]) -> (u64, Option<String>) {
         // Once for all of them: it takes most of the time.
         let read = second::record::read(record);
@@ -422,8 +439,34 @@ impl Tally {
         let number = run.number;
         self.questions[(number != 0) as usize] += 1;
         let wrong = asked("ordersheet_longest_run", record, run, ffi::longest_run)
-            .or_else(|| asked("ordersheet_gangs", record, gangs, ffi::gangs));
+            .or_else(|| asked("ordersheet_gangs", record, gangs, ffi::gangs))
+            .or_else(|| self.reasons(record, read.as_ref(), &some_pairs(record)));
         (number, wrong)
+    }
+
+    /// One call for each pair of job numbers, as far as the first that is wrong; what is
+    /// wrong with it.
+    fn reasons(
+        &mut self,
+        record: &[u8],
+        read: Option<&(usize, Tree)>,
+        pairs: &[(u16, u16)],
+    ) -> Option<String> {
+        let mut wrong = |&(first, second): &(u16, u16)| {
+            let reason = second::reason_of(read, first, second);
+            let kind = match reason.number {
+                0 => reason.rule as usize - 1,
+                14 => 4,
+                _ => 5,
+            };
+            self.reasons[kind] += 1;
+            let call = |copy: &Lent<u8>| ffi::reason(copy, first, second);
+            let report = asked("ordersheet_reason", record, reason, call)?;
+            Some(format!(
+                "{report}    the jobs, in decimal: {first}, {second}\n"
+            ))
+        };
+        pairs.iter().find_map(&mut wrong)
     }
 
     /// One call for the joins of a fresh copy of the pair list: the number that
@@ -459,7 +502,7 @@ fn asked<T: Debug + PartialEq>(
     entry: &str,
     record: &[u8],
     expected: impl Into<T>,
-    call: fn(&Lent<u8>) -> T,
+    call: impl FnOnce(&Lent<u8>) -> T,
 ) -> Option<String> {
     let expected = expected.into();
     let copy = Lent::new(record);

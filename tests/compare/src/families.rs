@@ -4,6 +4,7 @@ use crate::check::{Input, Tally, ENOUGH};
 use crate::gangs;
 use crate::generate::*;
 use crate::joins;
+use crate::reason;
 use crate::runs;
 use second::{cases, LONGEST_RECORD, LONGEST_SHEET, MOST_ORDERS};
 use std::collections::BTreeSet;
@@ -37,7 +38,7 @@ impl Task {
 
 /// All tasks, those of the heavy families first.
 pub fn tasks() -> Vec<Task> {
-    let families: [(&'static str, usize, Body); 48] = [
+    let families: [(&'static str, usize, Body); 55] = [
         (
             "sheets about the longest",
             LONG_COUNTS.len(),
@@ -84,6 +85,25 @@ pub fn tasks() -> Vec<Task> {
             gangs::SIX_PARTS,
             gangs::six_jobs,
         ),
+        (
+            "reasons on extreme trees",
+            reason::EXTREME_PARTS,
+            reason::extreme_trees,
+        ),
+        ("reasons on any tree", 20, reason::any_trees),
+        ("reasons of unequal widths", 10, reason::unequal_widths),
+        (
+            "reasons of some numbers of gangs",
+            reason::NUMBER_PARTS,
+            reason::some_numbers,
+        ),
+        (
+            "reasons on trees of up to 6 jobs",
+            reason::SMALL_PARTS,
+            reason::small_trees,
+        ),
+        ("reasons of no jobs", reason::COUNT_PARTS, reason::no_jobs),
+        ("reasons on no record", 10, reason::no_records),
         ("questions on no record", 10, runs::no_records),
         ("joins of repeated orders", 10, joins::repeated_orders),
         ("joins of 4,096 orders", 10, joins::many_orders),

@@ -68,6 +68,8 @@ extern "C" {
 
     fn ordersheet_gangs(record: *const u8, record_len: usize) -> GangPlan;
 
+    fn ordersheet_reason(record: *const u8, record_len: usize, first: u16, second: u16) -> Reason;
+
     fn bench_joins(arcs: *const u16, numbers: usize, n: u16, again: u16) -> usize;
 }
 
@@ -92,6 +94,17 @@ pub struct GangPlan {
     pub gangs: [u8; 128],
 }
 
+/// What comes back of two jobs: the number of their rule, the lowest node over both by
+/// its position, and the jobs under it.
+#[derive(Debug, Default, PartialEq, Eq)]
+#[repr(C)]
+pub struct Reason {
+    pub answer: u64,
+    pub rule: u64,
+    pub position: u64,
+    pub jobs: u64,
+}
+
 impl From<second::LongestRun> for Run {
     fn from(run: second::LongestRun) -> Run {
         Run {
@@ -110,6 +123,17 @@ impl From<second::GangPlan> for GangPlan {
             count: plan.hours.len() as u64,
             hours: and_zeros(&plan.hours),
             gangs: and_zeros(&plan.gangs),
+        }
+    }
+}
+
+impl From<second::Reason> for Reason {
+    fn from(reason: second::Reason) -> Reason {
+        Reason {
+            answer: packed(reason.number, reason.places),
+            rule: reason.rule,
+            position: reason.position,
+            jobs: reason.jobs,
         }
     }
 }
@@ -214,6 +238,10 @@ pub fn longest_run(record: &Lent<u8>) -> Run {
 
 pub fn gangs(record: &Lent<u8>) -> GangPlan {
     unsafe { ordersheet_gangs(record.pointer(), record.length()) }
+}
+
+pub fn reason(record: &Lent<u8>, first: u16, second: u16) -> Reason {
+    unsafe { ordersheet_reason(record.pointer(), record.length(), first, second) }
 }
 
 pub fn joins(count: u16, list: &Lent<u16>) -> usize {

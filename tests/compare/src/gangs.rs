@@ -16,9 +16,10 @@ fn compare(rng: &mut Rng, tally: &mut Tally, tree: &Shape) {
 }
 
 /// Chains and side groups in turn, from two to as many in each other as there can be,
-/// their children of unequal widths. Where the jobs ascend these stay as they were drawn.
-pub fn unequal_widths(rng: &mut Rng, _: usize, tally: &mut Tally) {
-    for round in 0..120 {
+/// their children of unequal widths: four such trees a round. Where the jobs ascend these
+/// stay as they were drawn.
+pub fn uneven_trees(rng: &mut Rng, rounds: usize, mut each: impl FnMut(&mut Rng, &Shape)) {
+    for round in 0..rounds {
         let count = small_or_any(rng);
         let mut jobs: Vec<usize> = (0..count).collect();
         if round % 2 == 1 {
@@ -27,28 +28,37 @@ pub fn unequal_widths(rng: &mut Rng, _: usize, tally: &mut Tally) {
         for depth in [2, 3, 4, MOST_JOBS] {
             let side = rng.percent(50);
             let tree = plain(uneven(rng, &jobs, side, depth));
-            compare(rng, tally, &tree);
+            each(rng, &tree);
         }
     }
 }
 
+pub fn unequal_widths(rng: &mut Rng, _: usize, tally: &mut Tally) {
+    uneven_trees(rng, 120, |rng, tree| compare(rng, tally, tree));
+}
+
 pub const NUMBER_PARTS: usize = 16;
 
-/// Every number of gangs, of any jobs that are enough and of the most: so many free jobs
-/// in a chain with single jobs and with smaller side groups, and at the heads of as many
-/// chains, one of them with all other jobs or each with some.
+/// Trees of so many gangs: so many free jobs in a chain with single jobs and with smaller
+/// side groups, and at the heads of as many chains, one of them with all other jobs or
+/// each with some.
+pub fn trees_of(rng: &mut Rng, gangs: usize, jobs: &[usize]) -> [Shape; 4] {
+    let (free, rest) = jobs.split_at(gangs);
+    [
+        chain_with(rng, free, rest, 1),
+        chain_with(rng, free, rest, gangs),
+        chains_from(rng, free, rest, 1),
+        chains_from(rng, free, rest, gangs),
+    ]
+    .map(plain)
+}
+
+/// Every number of gangs, of any jobs that are enough and of the most.
 pub fn every_number(rng: &mut Rng, part: usize, tally: &mut Tally) {
     for gangs in (1..=MOST_JOBS - part).rev().step_by(NUMBER_PARTS) {
         for count in [rng.from(gangs, MOST_JOBS), MOST_JOBS] {
             let jobs = any_jobs(rng, count);
-            let (free, rest) = jobs.split_at(gangs);
-            for tree in [
-                chain_with(rng, free, rest, 1),
-                chain_with(rng, free, rest, gangs),
-                chains_from(rng, free, rest, 1),
-                chains_from(rng, free, rest, gangs),
-            ] {
-                let tree = plain(tree);
+            for tree in trees_of(rng, gangs, &jobs) {
                 let record = laid_out(&tree, &vec![0; count]);
                 assert!(
                     second::gangs(&record).hours.len() == gangs,

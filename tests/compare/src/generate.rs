@@ -533,13 +533,18 @@ pub fn swap_jobs(record: &[u8], one: usize, other: usize) -> Vec<u8> {
     swapped
 }
 
+/// Numbers that depend on the bytes alone.
+pub fn rng_of(bytes: &[u8]) -> Rng {
+    let seed = bytes.iter().fold(1, |seed: u64, &byte| {
+        seed.wrapping_mul(0x100_0000_01b3) ^ byte as u64
+    });
+    Rng::new(seed)
+}
+
 /// The record with one bit changed, with one byte changed, shortened, lengthened,
 /// and with two jobs exchanged. Where depends on the record alone.
 pub fn damages(record: &[u8]) -> Vec<Vec<u8>> {
-    let seed = record.iter().fold(1, |seed: u64, &byte| {
-        seed.wrapping_mul(0x100_0000_01b3) ^ byte as u64
-    });
-    let mut rng = Rng::new(seed);
+    let mut rng = rng_of(record);
     let mut byte = record.to_vec();
     let at = rng.below(byte.len());
     byte[at] = byte[at].wrapping_add(rng.from(1, 255) as u8);

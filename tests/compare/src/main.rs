@@ -5,9 +5,11 @@
 //! `compare` runs every family, `compare WORD...` those whose names hold one of
 //! the words. The last line is `N passed, M failed`, N and M counting inputs: a
 //! sheet or pair list with two area lengths, a record with one, a record for its
-//! questions alone, for the longest run and the gangs, or a pair list for its joins alone.
-//! Answers of the last are numbered 0 without a circle, 7 with one, 3 and 5 where
-//! nothing is counted.
+//! questions alone, for the longest run, the gangs and some reasons, a record with pairs
+//! of job numbers for their reasons alone, or a pair list for its joins alone. Answers of
+//! the last are numbered 0 without a circle, 7 with one, 3 and 5 where nothing is
+//! counted; those of pairs are numbered as the record is read, and the pairs are counted
+//! on a line of their own.
 
 use std::process::ExitCode;
 use std::time::Instant;
@@ -31,6 +33,11 @@ fn main() -> ExitCode {
     }
     let [accepted, refused] = tally.questions;
     println!("questions: {accepted} of records, {refused} of bytes that are none");
+    let [same, before, after, free, no_job, no_record] = tally.reasons;
+    println!(
+        "reasons: {same} same job, {before} before, {after} after, {free} free, \
+         {no_job} of no job, {no_record} in bytes that are no record"
+    );
     let [without, with, refused] = tally.joins;
     println!("joins: {without} without a circle, {with} with one, {refused} refused");
     println!(

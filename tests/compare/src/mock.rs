@@ -2,6 +2,7 @@
 //! other than 0 makes them wrong in one way, which the harness has to find.
 
 mod gangs;
+mod reason;
 
 use crate::ffi;
 use crate::generate::{list, with_hours_of, Bits};
@@ -16,7 +17,7 @@ use std::sync::atomic::{AtomicUsize, Ordering};
 
 pub static FAULT: AtomicUsize = AtomicUsize::new(0);
 
-pub const FAULTS: [&str; 170] = [
+pub const FAULTS: [&str; 266] = [
     "none",
     "a byte after the record is set",
     "a byte after the reduced orders is set",
@@ -160,6 +161,102 @@ pub const FAULTS: [&str; 170] = [
     "gangs are given where a job does not stand",
     "gangs are given where a group is in one of its kind",
     "gangs are given where side children do not ascend",
+    "a job is taken for the leaf at its place",
+    "the answer to a reason has the record's places",
+    "the first job number has 8 bits",
+    "the second job number has 8 bits",
+    "a job number has 15 bits",
+    "a job number above 127 is taken for 127",
+    "the second job is taken for the first too",
+    "the longest record has no reasons",
+    "the job numbered as the count is let pass as the first",
+    "the job numbered as the count is let pass as the second",
+    "the first job number is not tested",
+    "the second job number is not tested",
+    "14 is given only where neither is a job",
+    "the same job is told of what is no job",
+    "the same job twice is refused",
+    "one job alone is refused",
+    "jobs 126 and 127 are refused together",
+    "11 is given for what is no job",
+    "a number is tested against 128 alone",
+    "a number from 32,768 on is taken for one below 0",
+    "the last job is refused",
+    "job 127 is refused",
+    "14 is tested ahead of 11",
+    "a number from 128 on is refused ahead of 11",
+    "no bytes are a record of no jobs",
+    "a rule stays on refusal by 11",
+    "a position stays on refusal by 11",
+    "jobs stay on refusal by 11",
+    "a rule stays on refusal by 14",
+    "a position stays on refusal by 14",
+    "jobs stay on refusal by 14",
+    "14 has the job as its place",
+    "the rule is numbered from 0",
+    "the same job shows the group over its leaf",
+    "the same job shows the outermost group",
+    "the same job has its number for a position",
+    "the same job has no position",
+    "the same job has no jobs under it",
+    "the same job is free of itself",
+    "the same job is before itself",
+    "the rule is that of the outermost group",
+    "jobs in any side group are free",
+    "jobs in any chain are ordered",
+    "free is told for a chain",
+    "a chain puts the first job before the second",
+    "the children of a side group are taken for ordered",
+    "before and after are exchanged",
+    "the rule is that of the smaller job to the other",
+    "the child order is that of the job numbers",
+    "the child order is that of the smallest jobs",
+    "the child order is that of the numbers of jobs",
+    "the group over the lowest one is told",
+    "the outermost group is told",
+    "the group over the first job is told",
+    "the group over the second job is told",
+    "the last group ahead of both leaves is told",
+    "the first leaf of the two is told",
+    "of groups that end together one stays open",
+    "a group in 64 others is not told",
+    "a group in 126 others is not told",
+    "positions are counted from 1",
+    "positions are counted in leaves",
+    "positions are counted in groups",
+    "positions are counted in bits",
+    "positions are counted level by level",
+    "positions are counted after the children",
+    "positions go from right to left in side groups",
+    "positions are those in the group over the node",
+    "the depth is told for a position",
+    "positions leave out what is below earlier children",
+    "a side group has no position",
+    "the last of 255 nodes has no position",
+    "a position has 6 bits",
+    "a position has 7 bits",
+    "jobs under a group are counted in nodes",
+    "jobs under a group are counted in nodes below it",
+    "jobs under a group are counted in children",
+    "jobs under a group are counted in its two children",
+    "jobs are counted from one leaf to the other",
+    "jobs after the later leaf are not counted",
+    "jobs ahead of the earlier leaf are not counted",
+    "jobs are counted as far as the greatest",
+    "all jobs of the record are told",
+    "jobs with no hours are not counted",
+    "the count of jobs is one too few",
+    "the count of jobs is one too many",
+    "128 jobs are told as 0",
+    "the last of 255 nodes is not counted",
+    "the record of a reason is written to",
+    "a reason is given where zero bytes follow the record",
+    "a reason is given where bits that fill the last byte are set",
+    "a reason is given where a group has one child",
+    "a reason is given where a job stands twice",
+    "a reason is given where a job does not stand",
+    "a reason is given where a group is in one of its kind",
+    "a reason is given where side children do not ascend",
     "repeats of an order are joined again",
     "a repeat is joined again where another order stands between",
     "an order that follows from others is not joined",
@@ -1177,6 +1274,19 @@ pub unsafe extern "C" fn ordersheet_gangs(record: *const u8, record_len: usize) 
         *(record as *mut u8).add(record_len - 1) ^= 1;
     }
     gangs::wrong_gangs(from_raw_parts(record, record_len))
+}
+
+#[no_mangle]
+pub unsafe extern "C" fn ordersheet_reason(
+    record: *const u8,
+    record_len: usize,
+    first: u16,
+    second: u16,
+) -> ffi::Reason {
+    if record_len > 0 && fault("the record of a reason is written to") {
+        *(record as *mut u8).add(record_len - 1) ^= 1;
+    }
+    reason::wrong_reason(from_raw_parts(record, record_len), first, second)
 }
 
 #[no_mangle]

@@ -1,5 +1,5 @@
-//! The families of records for questions to them alone, for the longest run and
-//! the gangs.
+//! The families of records for questions to them alone: the longest run, the gangs
+//! and some reasons.
 
 use crate::check::Tally;
 use crate::generate::*;
@@ -37,24 +37,30 @@ pub const EXTREME_PARTS: usize = 16;
 
 /// One group; groups of two, chain and side in turn, each the first child of the
 /// one ahead, each the last, and each where its jobs put it; groups of about the
-/// same number of jobs in one group. Each with both kinds outermost, for every
-/// job count.
+/// same number of jobs in one group. The outermost is of this kind; any jobs are
+/// given.
+pub fn extremes(rng: &mut Rng, any: &[usize], side: bool) -> [Shape; 7] {
+    let count = any.len();
+    let ascending: Vec<usize> = (0..count).collect();
+    let descending: Vec<usize> = (0..count).rev().collect();
+    [
+        blocks(&ascending, side, 1),
+        blocks(any, side, 1),
+        blocks(any, side, 2),
+        blocks(any, side, rng.from(1, count)),
+        nested(&descending, side, false),
+        nested(&ascending, side, true),
+        nested(any, side, true),
+    ]
+    .map(plain)
+}
+
+/// Each of these with both kinds outermost, for every job count.
 pub fn extreme_trees(rng: &mut Rng, part: usize, tally: &mut Tally) {
     for count in (1..=MOST_JOBS - part).rev().step_by(EXTREME_PARTS) {
-        let ascending: Vec<usize> = (0..count).collect();
-        let descending: Vec<usize> = (0..count).rev().collect();
         let any = any_jobs(rng, count);
         for side in [false, true] {
-            for tree in [
-                blocks(&ascending, side, 1),
-                blocks(&any, side, 1),
-                blocks(&any, side, 2),
-                blocks(&any, side, rng.from(1, count)),
-                nested(&descending, side, false),
-                nested(&ascending, side, true),
-                nested(&any, side, true),
-            ] {
-                let tree = plain(tree);
+            for tree in extremes(rng, &any, side) {
                 for hours in each_hours(rng, count) {
                     tally.compare_questions(&laid_out(&tree, &hours));
                 }

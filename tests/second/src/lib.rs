@@ -1,13 +1,15 @@
 //! The analysis of order sheets and pair lists, the record reader, the longest
-//! run, the gangs and the count of joins, written from document 01 and requests A.1
-//! to A.5 alone by the plainest search their words allow; the count with a circle,
-//! of which they say nothing, by the definition that the product has.
+//! run, the gangs, the reason between two jobs and the count of joins, written from
+//! document 01 and requests A.1 to A.6 alone by the plainest search their words
+//! allow; the count with a circle, of which they say nothing, by the definition that
+//! the product has.
 
 pub mod cases;
 pub mod gangs;
 pub mod joins;
 pub mod longest;
 pub mod order;
+pub mod reason;
 pub mod record;
 pub mod sheet;
 pub mod tree;
@@ -223,6 +225,44 @@ pub fn gangs_of(read: Option<&(usize, Tree)>) -> GangPlan {
         places: [0; 4],
         hours: gangs.iter().map(|gang| gang.total as u32).collect(),
         gangs: of_jobs,
+    }
+}
+
+/// An answer and the reason between two jobs: the number of its rule, the position in
+/// the record of the lowest node over both and the number of jobs under that; on
+/// refusal these are 0.
+#[derive(Clone, Debug, PartialEq, Eq)]
+pub struct Reason {
+    pub number: u64,
+    pub places: [u64; 4],
+    pub rule: u64,
+    pub position: u64,
+    pub jobs: u64,
+}
+
+/// The reason between two jobs of a record.
+pub fn reason(record: &[u8], first: u16, second: u16) -> Reason {
+    reason_of(record::read(record).as_ref(), first, second)
+}
+
+/// The same of the job count and tree that were read, if the bytes are a record.
+pub fn reason_of(read: Option<&(usize, Tree)>, first: u16, second: u16) -> Reason {
+    let pair = [first as usize, second as usize];
+    let (number, lowest) = match read {
+        None => (11, None),
+        Some((count, _)) if pair.iter().any(|job| job >= count) => (14, None),
+        Some((_, tree)) => (0, reason::of_tree(tree, pair)),
+    };
+    assert!(
+        lowest.is_some() == (number == 0),
+        "a job stands on no leaf of a record"
+    );
+    Reason {
+        number,
+        places: [0; 4],
+        rule: lowest.map_or(0, |lowest| lowest.rule as u64),
+        position: lowest.map_or(0, |lowest| lowest.position as u64),
+        jobs: lowest.map_or(0, |lowest| lowest.jobs as u64),
     }
 }
 

@@ -1,10 +1,10 @@
-//! What document 01 and requests A.1 to A.5 say of single sheets, lists and
+//! What document 01 and requests A.1 to A.6 say of single sheets, lists and
 //! records.
 
 use second::cases::{cases, sheet, widest, zeros};
 use second::{
-    analyse_pairs, analyse_sheet, gangs, joins, longest_run, packed, printed, read_record,
-    GangPlan, LongestRun, Outcome, LONGEST_RECORD, LONGEST_SHEET, MOST_ORDERS,
+    analyse_pairs, analyse_sheet, gangs, joins, longest_run, packed, printed, read_record, reason,
+    reason_of, GangPlan, LongestRun, Outcome, Reason, LONGEST_RECORD, LONGEST_SHEET, MOST_ORDERS,
 };
 
 const ENOUGH: (usize, usize) = (464, 8192);
@@ -511,16 +511,21 @@ fn packing() {
     assert_eq!(packed(13, [127, 0, 0, 0]), 0x7f0d);
 }
 
-#[test]
-fn longest_record() {
-    // 127 groups of two, chain and side in turn, all nested.
+/// 127 groups of two, chain and side in turn, all nested: each even job is before all
+/// that are above it.
+fn deepest() -> String {
     let mut shown = "128/".to_string() + &"4095/".repeat(128);
     for u in (0..127).step_by(2) {
         for v in u + 1..128 {
             shown += &format!("{u} {v}/");
         }
     }
-    let outcome = analysed(&shown);
+    shown
+}
+
+#[test]
+fn longest_record() {
+    let outcome = analysed(&deepest());
     assert_eq!(LONGEST_RECORD, 464);
     assert_eq!((outcome.number, outcome.places), (0, [464, 127, 127, 0]));
     let mut longer = outcome.record.clone();
@@ -723,6 +728,180 @@ fn gangs_of_128_jobs() {
         let two_of_each = every.iter().map(|job| job % 64).collect();
         let wide = widest().replacen(&all_of(0), &all_of(hours), 1);
         assert_eq!(planned(&wide), (each, two_of_each));
+    }
+}
+
+/// The rule, the position and the jobs of a reason.
+fn decided(reason: Reason) -> [u64; 3] {
+    assert_eq!((reason.number, reason.places), (0, [0; 4]));
+    [reason.rule, reason.position, reason.jobs]
+}
+
+/// The reasons between any two jobs of a record, which is read once.
+fn reasons_in(record: &[u8]) -> impl Fn(u16, u16) -> Reason {
+    let read = second::record::read(record);
+    move |first, second| reason_of(read.as_ref(), first, second)
+}
+
+/// Holds the reasons between every two jobs of a sheet's record to what is said, the
+/// entries of each first job in a row.
+fn every_two(shown: &str, said: &[&[[u64; 3]]]) {
+    let record = analysed(shown).record;
+    for (first, row) in said.iter().enumerate() {
+        assert_eq!(row.len(), said.len());
+        for (second, &expected) in row.iter().enumerate() {
+            let given = reason(&record, first as u16, second as u16);
+            assert_eq!(decided(given), expected, "{shown}: {first} and {second}");
+        }
+    }
+    // No job is left out.
+    let count = said.len() as u16;
+    assert_eq!(reason(&record, count, 0).number, 14);
+}
+
+#[test]
+fn reasons() {
+    // A leaf, whatever its hours; a chain; a side group.
+    every_two("1/0/", &[&[[1, 0, 1]]]);
+    every_two("1/4095/", &[&[[1, 0, 1]]]);
+    let (one, other) = ([1, 1, 1], [1, 2, 1]);
+    let (before, after, free) = ([2, 0, 2], [3, 0, 2], [4, 0, 2]);
+    every_two("2/3/4/0 1/", &[&[one, before], &[after, other]]);
+    every_two("2/3/4/1 0/", &[&[other, after], &[before, one]]);
+    every_two("2/3/4/", &[&[one, free], &[free, other]]);
+    // A side group of the chain 2, 0, which is its first child, and of 1.
+    every_two(
+        "3/0/0/0/2 0/",
+        &[
+            &[[1, 3, 1], [4, 0, 3], [3, 1, 2]],
+            &[[4, 0, 3], [1, 4, 1], [4, 0, 3]],
+            &[[2, 1, 2], [4, 0, 3], [1, 2, 1]],
+        ],
+    );
+    // A chain of the side groups 0, 2 and 1, 3: positions 1 and 4.
+    every_two(
+        "4/0/0/0/0/0 1/0 3/2 1/2 3/",
+        &[
+            &[[1, 2, 1], [2, 0, 4], [4, 1, 2], [2, 0, 4]],
+            &[[3, 0, 4], [1, 5, 1], [3, 0, 4], [4, 4, 2]],
+            &[[4, 1, 2], [2, 0, 4], [1, 3, 1], [2, 0, 4]],
+            &[[3, 0, 4], [4, 4, 2], [3, 0, 4], [1, 6, 1]],
+        ],
+    );
+}
+
+/// The printed sample: the chain at position 1 has 0, the side group of 1 and 2 at
+/// position 3, and 3; 4 is aside.
+#[test]
+fn reasons_in_the_sample() {
+    let (before, after, aside) = ([2, 1, 4], [3, 1, 4], [4, 0, 5]);
+    let free = [4, 3, 2];
+    for hours in ["0/0/0/0/0/", "40/16/16/24/8/"] {
+        every_two(
+            &format!("5/{hours}0 1/0 2/1 3/2 3/0 3/"),
+            &[
+                &[[1, 2, 1], before, before, before, aside],
+                &[after, [1, 4, 1], free, before, aside],
+                &[after, free, [1, 5, 1], before, aside],
+                &[after, after, after, [1, 6, 1], aside],
+                &[aside, aside, aside, aside, [1, 7, 1]],
+            ],
+        );
+    }
+}
+
+/// Every two of 128 jobs: in one group of each kind, in a chain of two side groups, and
+/// as deep as they go.
+#[test]
+fn reasons_of_128_jobs() {
+    let [chain, turned] = both_series();
+    let records = [
+        all_of(7) + &chain,
+        all_of(7) + &turned,
+        all_of(7),
+        widest(),
+        deepest(),
+    ]
+    .map(|shown| reasons_in(&analysed(&shown).record));
+    for u in 0..128 {
+        for v in 0..128 {
+            let rule = |ordered: bool| match ordered {
+                true if u < v => 2,
+                true => 3,
+                false => 4,
+            };
+            let half = u / 64;
+            let low = u.min(v);
+            let mut expected = [
+                [rule(true), 0, 128],
+                [5 - rule(true), 0, 128],
+                [rule(false), 0, 128],
+                [rule(true), 0, 128],
+                [rule(low % 2 == 0), 2 * low, 128 - low],
+            ];
+            if half == v / 64 {
+                expected[3] = [rule(false), 1 + 65 * half, 64];
+            }
+            if u == v {
+                let leaf = |position: u64| [1, position, 1];
+                let deep = if u == 127 { 254 } else { 2 * u + 1 };
+                let in_half = u + 2 + half;
+                expected = [u + 1, 128 - u, u + 1, in_half, deep].map(leaf);
+            }
+            let given = records
+                .each_ref()
+                .map(|reasons| decided(reasons(u as u16, v as u16)));
+            assert_eq!(given, expected, "{u} and {v}");
+        }
+    }
+}
+
+/// No rule, no group and no jobs.
+fn no_reason(number: u64) -> Reason {
+    Reason {
+        number,
+        places: [0; 4],
+        rule: 0,
+        position: 0,
+        jobs: 0,
+    }
+}
+
+/// Job numbers below the count and not, the count itself and those with a job's last
+/// eight bits among them.
+fn numbers_about(count: u16) -> Vec<u16> {
+    let mut numbers = vec![0, count - 1, count, count + 1, 127, 128, 129, 255];
+    numbers.extend([256, 255 + count, 256 + count, 32_767, 32_768]);
+    numbers.extend([32_767 + count, 65_280, 65_279 + count, 65_534, 65_535]);
+    numbers
+}
+
+#[test]
+fn no_reason_for_a_job_not_below_the_count() {
+    for count in 1..=128 {
+        let reasons = reasons_in(&listed(count, &[], &vec![0; count as usize]).record);
+        for first in numbers_about(count) {
+            for second in numbers_about(count) {
+                let given = reasons(first, second);
+                if first >= count || second >= count {
+                    assert_eq!(given, no_reason(14), "{count}: {first} and {second}");
+                } else {
+                    assert_eq!(given.number, 0, "{count}: {first} and {second}");
+                }
+            }
+        }
+    }
+}
+
+/// 11 is tested ahead of 14.
+#[test]
+fn no_reason_in_what_is_no_record() {
+    for bytes in no_records() {
+        for first in numbers_about(5) {
+            for second in numbers_about(5) {
+                assert_eq!(reason(&bytes, first, second), no_reason(11), "{bytes:?}");
+            }
+        }
     }
 }
 

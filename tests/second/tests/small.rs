@@ -3,7 +3,10 @@
 use second::joins::{by_passes, different, of_list, Joins};
 use second::order::{before, first_n, free, reduced, Before};
 use second::tree::{of_order, Tree};
-use second::{analyse_pairs, gangs, joins, longest_run, read_record, record, sheet, GangPlan};
+use second::{
+    analyse_pairs, gangs, joins, longest_run, read_record, reason, reason_of, record, sheet,
+    GangPlan, Reason,
+};
 use std::collections::{BTreeMap, HashSet};
 
 /// Different hours for each job, 0 and the most among them.
@@ -277,6 +280,7 @@ fn every_relation_on_up_to_four_jobs() {
                     .collect();
                 assert_eq!(listed, fewest);
                 assert!(listed.windows(2).all(|pair| pair[0] < pair[1]));
+                check_reasons(&outcome.record, &table);
             }
         }
     }
@@ -576,6 +580,152 @@ fn gangs_of_some_records_of_up_to_12_jobs() {
         let hours = some_hours(numbers, count, 4096);
         check_gangs_by_every_set(&with_hours(tree, &hours), count);
     });
+}
+
+/// The jobs under each node of a record of so many jobs, the nodes as they come in its
+/// bits: a leaf is under every group that still has a child to come.
+fn jobs_under(record: &[u8], count: usize) -> Vec<Vec<usize>> {
+    let bit = |at: usize| (record[at / 8] >> (7 - at % 8)) as usize & 1;
+    let number = |at: usize| (at..at + 7).fold(0, |number, at| 2 * number + bit(at));
+    let mut nodes: Vec<Vec<usize>> = Vec::new();
+    // Each open group, and how many of its children are to come.
+    let mut open: Vec<(usize, usize)> = Vec::new();
+    let (mut at, mut leaves) = (7, 0);
+    while leaves < count {
+        let position = nodes.len();
+        nodes.push(Vec::new());
+        if let Some((_, to_come)) = open.last_mut() {
+            *to_come -= 1;
+        }
+        if bit(at) == 1 {
+            open.push((position, number(at + 2) + 1));
+            at += 9;
+        } else {
+            let job = number(at + 1);
+            nodes[position].push(job);
+            open.iter().for_each(|&(group, _)| nodes[group].push(job));
+            leaves += 1;
+            at += 20;
+        }
+        while open.last().is_some_and(|&(_, to_come)| to_come == 0) {
+            open.pop();
+        }
+    }
+    assert!(open.is_empty());
+    nodes
+}
+
+/// The rule of two jobs by the order alone.
+fn rule_of(table: &Before, u: usize, v: usize) -> u64 {
+    let so = [u == v, table[u][v], table[v][u], free(table, u, v)];
+    assert_eq!(so.iter().filter(|&&so| so).count(), 1);
+    so.iter().position(|&so| so).unwrap() as u64 + 1
+}
+
+/// The rule that a node gives by its kind and the sequence of its children, if both
+/// jobs stand there and in no one child.
+fn rule_by(node: &Tree, u: usize, v: usize) -> Option<u64> {
+    let child_with = |job: usize| {
+        let with = |child: &Tree| child.forward().contains(&job);
+        node.children().iter().position(with)
+    };
+    match node {
+        Tree::Leaf { job, .. } => (u == *job && v == *job).then_some(1),
+        _ => {
+            let (of_u, of_v) = (child_with(u)?, child_with(v)?);
+            let chain = matches!(node, Tree::Chain(_));
+            let rule = match chain {
+                true if of_u < of_v => 2,
+                true => 3,
+                false => 4,
+            };
+            (of_u != of_v).then_some(rule)
+        }
+    }
+}
+
+/// The position of the node over both jobs that has the fewest, of all by the jobs
+/// under each.
+fn lowest_over(nodes: &[Vec<usize>], u: usize, v: usize) -> usize {
+    let over = |at: &usize| nodes[*at].contains(&u) && nodes[*at].contains(&v);
+    let over: Vec<usize> = (0..nodes.len()).filter(over).collect();
+    let fewest = over.iter().map(|&at| nodes[at].len()).min().unwrap();
+    let mut lowest = over.into_iter().filter(|&at| nodes[at].len() == fewest);
+    let position = lowest.next().unwrap();
+    assert_eq!(lowest.next(), None);
+    position
+}
+
+/// Holds the reasons between every two jobs of a record to its order and to all its
+/// nodes.
+fn check_reasons(record: &[u8], table: &Before) {
+    let count = table.len();
+    let under = jobs_under(record, count);
+    let read = record::read(record);
+    let (_, tree) = read.as_ref().unwrap();
+    let nodes = tree.nodes();
+    for u in 0..count {
+        for v in 0..count {
+            let position = lowest_over(&under, u, v);
+            let expected = Reason {
+                number: 0,
+                places: [0; 4],
+                rule: rule_of(table, u, v),
+                position: position as u64,
+                jobs: under[position].len() as u64,
+            };
+            let given = reason_of(read.as_ref(), u as u16, v as u16);
+            assert_eq!(given, expected, "{tree:?}: {u} and {v}");
+            let by_node = rule_by(nodes[position], u, v);
+            assert_eq!(by_node, Some(given.rule), "{tree:?}: {u} and {v}");
+        }
+    }
+    for (u, v) in [(count, 0), (0, count), (count, count), (65_535, count)] {
+        assert_eq!(reason(record, u as u16, v as u16).number, 14);
+    }
+}
+
+/// The order of a record by the reduced orders that it gives back.
+fn order_of(record: &[u8], count: usize) -> Before {
+    let reduced = read_record(record, 8192).reduced;
+    let orders = reduced.chunks(2).map(|o| (o[0] as usize, o[1] as usize));
+    followed_on(count, &orders.collect::<Vec<_>>())
+}
+
+#[test]
+fn reasons_in_every_small_record() {
+    for count in 1..=5 {
+        let trees = all_trees(&jobs(count)).into_iter();
+        for tree in trees.filter(|tree| tree.is_plain(count)) {
+            let record = record::lay_out(count, &tree);
+            check_reasons(&record, &order_of(&record, count));
+        }
+    }
+}
+
+#[test]
+fn reasons_in_some_records_of_up_to_12_jobs() {
+    some_trees(&mut Numbers(7), 2000, |numbers, tree| {
+        let count = tree.forward().len();
+        let hours = some_hours(numbers, count, 4096);
+        let record = record::lay_out(count, &with_hours(tree, &hours));
+        check_reasons(&record, &order_of(&record, count));
+    });
+}
+
+#[test]
+fn reasons_in_some_records_of_up_to_64_jobs() {
+    let mut numbers = Numbers(8);
+    for count in (13..=64).step_by(3) {
+        let mut jobs = jobs(count);
+        for i in 1..count {
+            jobs.swap(i, numbers.below(i + 1));
+        }
+        for side in [false, true] {
+            let record = record::lay_out(count, &some_tree(&mut numbers, &jobs, side));
+            check_reasons(&record, &order_of(&record, count));
+        }
+    }
 }
 
 /// A job's row, made once from the finished rows of the jobs after it, each join

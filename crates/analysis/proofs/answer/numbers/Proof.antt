@@ -46,6 +46,9 @@ enum-told-7 c = search needs
 enum-known-verdict-7 : tie.Need-enum-known-verdict-7
 enum-known-verdict-7 c = search needs
 
+enum-told-8 : tie.Need-enum-told-8
+enum-told-8 c = search needs
+
 returns : tie.Need-returns
 returns c = told-by (c .before .verdict .given .1)
 
@@ -88,6 +91,9 @@ returns-13 c = told-by (c .enum-told7 .given .1)
 returns-14 : tie.Need-returns-14
 returns-14 c = told-by (c .before .verdict7 .given .1)
 
+returns-15 : tie.Need-returns-15
+returns-15 c = told-by (c .enum-told8 .given .1)
+
 pub numbers-spec : {M : Type 1} → statement M
 numbers-spec =
     tie.close
@@ -106,6 +112,7 @@ numbers-spec =
     enum-told-6
     enum-told-7
     enum-known-verdict-7
+    enum-told-8
     returns
     returns-2
     returns-3
@@ -119,4 +126,5 @@ numbers-spec =
     returns-11
     returns-12
     returns-13
-    returns-14)
+    returns-14
+    returns-15)

@@ -5,8 +5,9 @@ use lib.ListN.{drop}
 use Rattle.poset.specs.Tree.{Tree}
 use Rattle.record.specs.Tokens as Tokens
 use Rattle.reader.specs.Nodes.{Listed}
+use Rattle.reader.proofs.Pending.{nodes-few}
 use Rattle.gangs.specs.Places.{held, Ready}
-use Rattle.gangs.proofs.Nodes.{nodes-few, ready-first, ready-node, ready-last}
+use Rattle.gangs.proofs.Nodes.{ready-first, ready-node, ready-last}
 use Rattle.gangs.proofs.numbering.numbered.Statement.{statement}
 use Rattle.gangs.proofs.numbering.numbered.Tie as tie
 
@@ -20,7 +21,7 @@ abbrev μ-loop : tie.MeasureT-loop
 in-room : (c : tie.In-loop Inv-loop μ-loop) → c .before .loop .i < 256
 in-room c =
     let (t, l) = c .before .before .pre .3 in
-    omega (arith, nodes-few t _ _ l (c .before .before .args .jobs .now), c .loop-test .taken)
+    omega (arith, nodes-few t _ _ l, c .loop-test .taken)
 
 loop-holds : tie.Need-loop-holds Inv-loop μ-loop
 loop-holds c = λ t l. rw (c .pre .1, c .pre .2) (ready-first t _ _ l _)

@@ -4,8 +4,9 @@ use native.Mathlib.Omega.{arith}
 use Rattle.poset.specs.Tree.{Tree}
 use Rattle.record.specs.Layout.{hoursOf}
 use Rattle.reader.specs.Nodes.{Listed}
+use Rattle.reader.proofs.Pending.{spells, pending, row-step, row-fits, nodes-few}
 use Rattle.longest.specs.Stack.{runs, Stacked}
-use Rattle.longest.proofs.Pending.{spells, pending, row-step, row-fits, nodes-few, row-end, row-found}
+use Rattle.longest.proofs.Rows.{row-end, row-found}
 use Rattle.longest.proofs.stack.longest.Statement.{statement}
 use Rattle.longest.proofs.stack.longest.Tie as tie
 

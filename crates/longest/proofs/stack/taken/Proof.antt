@@ -5,7 +5,8 @@ use borrow.Author.Needs.{needs}
 use native.Mathlib.Omega.{arith}
 use Rattle.poset.specs.Tree.{Kind, series, parallel, Tree}
 use Rattle.record.specs.Layout.{hoursOf}
-use Rattle.longest.specs.Stack.{Runs, runs, Step, Fits, Stacked}
+use Rattle.reader.specs.Nodes.{Step, Fits}
+use Rattle.longest.specs.Stack.{Runs, runs, Stacked}
 use Rattle.record.proofs.Entries.{hours-most}
 use Rattle.longest.proofs.Stacking.{taken-leaf, IsGroup, Opened, taken-group}
 use Rattle.longest.proofs.stack.taken.Statement.{statement}

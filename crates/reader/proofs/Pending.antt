@@ -3,18 +3,17 @@ use Prim.Native.Nat.{ℕ, zero, suc, _-_, _≤_, _<_}
 use mathlib.Core.Path.{_≡_, refl, sym, ap, subst, _∙_}
 use mathlib.Core.List.{List, [], _∷_, _++_, flatMap, append-nil, append-assoc}
 use native.Mathlib.Omega.{arith}
-use lib.ListN.{length, getD, replicate}
+use lib.ListN.{length, getD, drop, length-append}
 use lib.Seq.{getD-take}
 use Rattle.poset.specs.Lists.{occurrences}
-use Rattle.poset.specs.Tree.{Tree, leaf, node, Forest, last, more, leaves, forestLeaves, trees}
+use Rattle.poset.specs.Tree.{Kind, Tree, leaf, node, Forest, last, more, leaves, forestLeaves, trees}
 use Rattle.poset.proofs.Laws.{count-append, flatMap-append}
-use Rattle.poset.proofs.Shape.{trees-leaves}
-use Rattle.record.proofs.Sizes.{Small, small-right}
-use Rattle.record.proofs.Tokens.{tokens-few}
+use Rattle.poset.proofs.Shape.{trees-row, trees-leaves}
+use Rattle.record.specs.Layout.{moreChildren}
 use Rattle.record.specs.Tokens.{tokens, forestTokens, nodeRoom}
-use Rattle.reader.specs.Nodes.{Listed}
-use Rattle.longest.specs.Longest.{longest}
-use Rattle.longest.specs.Stack.{Step, one-leaf, one-group, Fits, Runs, runs, Stacked, Found}
+use Rattle.record.proofs.Sizes.{Small, small-left, small-right, groups-lt}
+use Rattle.record.proofs.Tokens.{tokens-few, children-few}
+use Rattle.reader.specs.Nodes.{Listed, Step, one-leaf, one-group, Fits}
 
 -- nodes, and the trees in a row that they are
 pub data Spells : List ℕ → List Tree → Type 0 where
@@ -53,9 +52,36 @@ pub pending-end : {xs : List ℕ} {us : List Tree} (s : Spells xs us) → pendin
 pending-end none = refl
 pending-end (one-more step s) = pending-end s
 
+-- lists for each tree: of a forest, and of a group's children and what follows them
+
+pub trees-tokens : (f : Forest) → flatMap tokens (trees f) ≡ forestTokens f
+trees-tokens = trees-row tokens forestTokens (λ t. refl) (λ t f. refl)
+
+pub children-row : {A : Type 0} (g : Tree → List A) (t : Tree) (f : Forest) (rest : List Tree) {ys : List A} → flatMap g (trees f) ≡ ys
+    → (g t ++ ys) ++ flatMap g rest ≡ flatMap g (t ∷ trees f ++ rest)
+unfolding flatMap
+children-row {A} g t f rest {ys} e =
+    append-assoc (g t) ys (flatMap g rest)
+    ∙ ap (λ (l : List A). g t ++ l) (ap (λ (l : List A). l ++ flatMap g rest) (sym e) ∙ sym (flatMap-append g (trees f) rest))
+
+-- the lists of the trees in a row at node i, joined, are those of the whole without the first i elements, where each step puts one element ahead
+module _ {A : Type 0} (g : Tree → List A)
+    (first : (x : ℕ) (ts us : List Tree) → Step x ts us → (a : A) × (flatMap g us ≡ a ∷ flatMap g ts)) where
+  pub pending-drop : {xs : List ℕ} {us : List Tree} (i : ℕ) (s : Spells xs us) → flatMap g (pending i s) ≡ drop i (flatMap g us)
+  unfolding flatMap
+  pending-drop zero s = refl
+  pending-drop (suc i) none = refl
+  pending-drop {us = us} (suc i) (one-more {x} {xs} {ts} step s) = pending-drop i s ∙ ap (drop (suc i)) (sym (first x ts us step .1))
+
+-- every tree of a row has a leaf
+pub row-length : (ts : List Tree) → length ts ≤ length (flatMap leaves ts)
+unfolding flatMap
+row-length [] = omega arith
+row-length (t ∷ ts) = omega (arith, row-length ts, groups-lt t, length-append (leaves t) (flatMap leaves ts))
+
 -- they fit a record as the tree does
 
-step-fits : {x : ℕ} {ts us : List Tree} → Step x ts us → Fits us → Fits ts
+pub step-fits : {x : ℕ} {ts us : List Tree} → Step x ts us → Fits us → Fits ts
 unfolding leaves flatMap
 step-fits {ts = ts} (one-leaf j) fits =
     record {
@@ -63,11 +89,12 @@ step-fits {ts = ts} (one-leaf j) fits =
       small = small-right (j ∷ []) (flatMap leaves ts) (fits .small);
     }
 step-fits (one-group {rest} k t f) fits =
-    let same : flatMap leaves (node k t f ∷ rest) ≡ flatMap leaves (t ∷ trees f ++ rest) =
-    append-assoc (leaves t) (forestLeaves f) (flatMap leaves rest)
-    ∙ ap (λ (l : List ℕ). leaves t ++ l)
-    (ap (λ (l : List ℕ). l ++ flatMap leaves rest) (sym (trees-leaves f)) ∙ sym (flatMap-append leaves (trees f) rest)) in
+    let same : flatMap leaves (node k t f ∷ rest) ≡ flatMap leaves (t ∷ trees f ++ rest) = children-row leaves t f rest (trees-leaves f) in
     record { once = λ u. subst (λ (l : List ℕ). occurrences u l ≤ 1) same (fits .once u); small = subst Small same (fits .small) }
+
+pub few-children : (k : Kind) (t : Tree) (f : Forest) (rest : List Tree) → Fits (node k t f ∷ rest) → moreChildren f < 128
+unfolding leaves flatMap
+few-children k t f rest fits = children-few t f (small-left (leaves t ++ forestLeaves f) (flatMap leaves rest) (fits .small))
 
 pub fits-at : {xs : List ℕ} {us : List Tree} (i : ℕ) (s : Spells xs us) → Fits us → Fits (pending i s)
 fits-at zero s fits = fits
@@ -97,19 +124,3 @@ module _ (t : Tree) (list : List ℕ) (count : ℕ) (l : Listed t list count) wh
 
   pub nodes-few : count ≤ nodeRoom
   nodes-few = omega (arith, l .number, tokens-few t (l .small))
-
-  pub row-end : (next : List ℕ) → length next ≡ 128 → (hours : ℕ → ℕ)
-      → Stacked hours (pending count (spells t)) 128 (runs (replicate 128 0) (replicate 128 0) (replicate 128 0) next)
-  row-end next size hours =
-      subst (λ (ts : List Tree). Stacked hours ts 128 (runs (replicate 128 0) (replicate 128 0) (replicate 128 0) next))
-      (sym (ap (λ (n : ℕ). pending n (spells t)) (l .number) ∙ pending-end (spells t)))
-      (record { sized = record { totals-size = refl; firsts-size = refl; lasts-size = refl; next-size = size }; height = refl; entries = tt })
-
-  -- at the first node the tree's run is on top
-  pub row-found : (hours : ℕ → ℕ) (i top : ℕ) (w : Runs) → i ≤ 0 → Stacked hours (pending i (spells t)) top w
-      → (top < 128)
-      × Found (longest hours t) (w .next) (record { total = getD (w .totals) top 0; first = getD (w .firsts) top 0; last = getD (w .lasts) top 0 })
-  row-found hours i top w first s =
-      let zero-th : i ≡ 0 = omega arith in
-      let whole : Stacked hours (t ∷ []) top w = subst (λ (n : ℕ). Stacked hours (pending n (spells t)) top w) zero-th s in
-      (omega (arith, whole .height), record { total-is = whole .entries .0 .total; strand = whole .entries .0 .strand })

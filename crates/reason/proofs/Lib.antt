@@ -1,0 +1,11 @@
+pub mod Lowest
+pub mod Ruling
+pub mod Tree
+pub mod Rows
+pub mod Searching
+pub mod Counting
+pub mod Answering
+pub mod Records
+pub mod Sheets
+pub mod Examples
+pub mod Theorems
