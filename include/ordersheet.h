@@ -1,4 +1,4 @@
-/* Order sheets and cutting records: the planning desk's five calls.
+/* Order sheets and cutting records: the planning desk's six calls.
  *
  * A sheet is a line with the job count, then as many lines as the count says, each with one job's hours from job 0 on,
  * then a line for each order, two job numbers with one space between. A number has one to three digits, hours one to
@@ -10,13 +10,15 @@
  *
  * Number 0 is acceptance; its places are the record's bytes, the reduced orders, the groups in the tree, and 0, or all
  * 0 for a longest run, for gangs and for a reason. The others are refusals, tested in the order 1, 2, 3, 4, 13, 5, 6,
- * 7, 8, 9, 10 for a sheet, 11, 10 for a record that is read and 11, 14 for a reason; a longest run and gangs are
- * refused with 11 alone. A place that is not named here is 0. Orders, jobs, gangs, nodes and bytes are counted from 0.
+ * 7, 8, 9, 10 for a sheet, 2, 3, 4, 12, 13, 5, 6, 7, 8 for a preview, 11, 10 for a record that is read and 11, 14 for a
+ * reason; a longest run and gangs are refused with 11 alone. A place that is not named here is 0. Orders, jobs, gangs,
+ * nodes and bytes are counted from 0.
  *
  *      1  the sheet is longer than ORDERSHEET_SHEET bytes
- *      2  the sheet breaks the line form; first: the byte where it does, or the sheet's length where it stops short
+ *      2  the sheet breaks the line form; first: the byte where it does, or the sheet's length where it stops short. Of
+ *         a preview: the list has an odd length
  *      3  the job count is 0 or above 128
- *      4  there are more than 4,096 orders, repeats counted
+ *      4  there are more than 4,096 orders, repeats counted and in a preview the new one too
  *      5  an order names a job not below the count; first: the first such order
  *      6  an order puts a job before itself; first: the first such order
  *      7  there is a circle; first: the smallest job before itself
@@ -24,19 +26,20 @@
  *      9  the record area is shorter than the record
  *     10  the area for reduced orders is shorter than two bytes for each
  *     11  the bytes offered as a record are not the record of any plain tree
- *     12  the hours list is not as long as the job count; of pair lists only, which no call takes
+ *     12  the hours list is not as long as the job count; of a preview alone
  *     13  a job's hours are above ORDERSHEET_HOURS; first: the first such job
  *     14  a job number is not below the record's job count
  *
  * A refusal leaves the areas untouched. On acceptance the bytes after the written ones stay. ORDERSHEET_RECORD_AREA
  * and ORDERSHEET_REDUCED_AREA bytes are always enough, and 9 and 10 are then never given. Any lengths may be lent. A
- * longest run, gangs and a reason take no area.
+ * preview, a longest run, gangs and a reason take no area.
  *
- * A pointer is good for as many bytes as the length after it says; where that is 0 it is not followed. An area
- * overlaps neither the other area nor the input. The calls never fail otherwise, whatever the input is: they
- * allocate nothing, keep nothing between calls, and may run on several threads at once. A call takes less than
- * ORDERSHEET_STACK bytes of stack: tests/stack/stack.c measures up to 50,000 for a sheet and, for bytes offered as a
- * record, 17,000 to read them, 14,000 for a longest run, 15,000 for gangs and 13,000 for a reason. */
+ * A pointer is good for as many bytes as the length after it says, in a preview for as many 16-bit numbers, and there
+ * it has the alignment of uint16_t; where the length is 0 it is not followed. An area overlaps neither the other area
+ * nor the input. The calls never fail otherwise, whatever the input is: they allocate nothing, keep nothing between
+ * calls, and may run on several threads at once. A call takes less than ORDERSHEET_STACK bytes of stack:
+ * tests/stack/stack.c measures up to 45,000 for a sheet, 25,000 for a preview and, for bytes offered as a record,
+ * 17,000 to read them, 14,000 for a longest run, 15,000 for gangs and 13,000 for a reason. */
 
 #ifndef ORDERSHEET_H
 #define ORDERSHEET_H
@@ -59,6 +62,12 @@ extern "C" {
  * two bytes each, in the other. */
 uint64_t ordersheet_analyse(const uint8_t *sheet, size_t sheet_length, uint8_t *record, size_t record_room,
                             uint8_t *reduced, size_t reduced_room);
+
+/* The preview of one more order: the answer that the analysis would give, with areas long enough, for so many jobs with
+ * these hours and the orders of the list with this one at its end. The list has two numbers for each order, the hours
+ * one for each job; both are only read. In a place of 5 or 6 the new order counts as the one after the list's last. */
+uint64_t ordersheet_preview(uint16_t count, const uint16_t *list, size_t list_length, const uint16_t *hours,
+                            size_t hours_length, uint16_t first, uint16_t second);
 
 /* The reading of a record. On acceptance the reduced orders, two bytes each, are in the area. */
 uint64_t ordersheet_read(const uint8_t *record, size_t record_length, uint8_t *reduced, size_t reduced_room);

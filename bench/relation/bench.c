@@ -49,9 +49,11 @@ static void closed(const uint16_t *arcs, size_t numbers, int n, set after[128]) 
     int depth = 0;
     memset(after, 0, 128 * sizeof(set));
     // one arc of each quarter of the list at a time: arcs side by side are often of one row, and the second would wait for the first
-    size_t quarter = numbers / 8;
-    for (size_t i = 0; i < numbers / 2 - 3 * quarter; i++)
+    size_t quarter = (numbers / 2 + 1) / 4, last = numbers / 2 - 3 * quarter;
+    for (size_t i = 0; i < last; i++)
         for (size_t k = 2 * i, j = 0; j < 4; j++, k += 2 * quarter) put(&after[arcs[k]], arcs[k + 1]);
+    if (last < quarter)
+        for (size_t k = 2 * last, j = 0; j < 3; j++, k += 2 * quarter) put(&after[arcs[k]], arcs[k + 1]);
     for (int i = 0; i < n && i < 64; i++) left.w[0] |= (uint64_t)!none(after[i]) << i;
     for (int i = 64; i < n; i++) left.w[1] |= (uint64_t)!none(after[i]) << (i - 64);
     while (!none(left)) for (int u = high(left);;) {

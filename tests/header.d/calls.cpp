@@ -1,4 +1,4 @@
-// The calls from C++: a sheet, its record read back, and its longest run, gangs and reasons, in full and cut off. Exit status 0: each gives what it should.
+// The calls from C++: a sheet, its record read back, its longest run, gangs and reasons, in full and cut off, and previews. Exit status 0: each gives what it should.
 
 #include "ordersheet.h"
 
@@ -39,5 +39,13 @@ int main()
     ordersheet_ruling no_record = ordersheet_reason(record, ordersheet_first(answer) - 1, 0, 2);
     bool no_reason = no_job.answer == 14 && no_job.rule == 0 && no_job.position == 0 && no_job.jobs == 0 && no_record.answer == 11 && no_record.rule == 0 &&
                      no_record.position == 0 && no_record.jobs == 0;
-    return accepted && same && orders && found && refused && parted && two_gangs && turned && decided && free && no_reason ? 0 : 1;
+    const uint16_t list[] = {0, 2, 1, 2}, hours[] = {3, 7, ORDERSHEET_HOURS, 0};
+    bool seen = ordersheet_preview(2, nullptr, 0, hours, 2, 1, 0) == answer;
+    uint64_t crossed = ordersheet_preview(4, list, 4, hours, 4, 1, 3);
+    bool crossing = ordersheet_number(crossed) == 8 && ordersheet_first(crossed) == 0 && ordersheet_second(crossed) == 1 && ordersheet_third(crossed) == 2 &&
+                    ordersheet_fourth(crossed) == 3;
+    uint64_t no_such = ordersheet_preview(4, list, 4, hours, 4, 1, 4);
+    bool foreseen = ordersheet_number(no_such) == 5 && ordersheet_first(no_such) == 2 && ordersheet_preview(4, list, 3, hours, 4, 1, 3) == 2 &&
+                    ordersheet_preview(4, list, 4, hours, 3, 1, 3) == 12 && ordersheet_preview(4, nullptr, 0, nullptr, 0, 1, 3) == 12;
+    return accepted && same && orders && found && refused && parted && two_gangs && turned && decided && free && no_reason && seen && crossing && foreseen ? 0 : 1;
 }

@@ -1,4 +1,4 @@
-/* Holds the numbers of ordersheet.h, what it says of the areas, and longest runs, gangs and reasons worked by hand, to the library. Prints a line for each that is wrong, then 'N passed, M failed'. */
+/* Holds the numbers of ordersheet.h, what it says of the areas, and previews, longest runs, gangs and reasons worked by hand, to the library. Prints a line for each that is wrong, then 'N passed, M failed'. */
 
 #define _DEFAULT_SOURCE
 #include <inttypes.h>
@@ -10,6 +10,7 @@
 
 /* The calls as DESK.md declares them. */
 static uint64_t (*const analyse)(const uint8_t *, size_t, uint8_t *, size_t, uint8_t *, size_t) = ordersheet_analyse;
+static uint64_t (*const preview)(uint16_t, const uint16_t *, size_t, const uint16_t *, size_t, uint16_t, uint16_t) = ordersheet_preview;
 static uint64_t (*const reread)(const uint8_t *, size_t, uint8_t *, size_t) = ordersheet_read;
 static ordersheet_run (*const longest_run)(const uint8_t *, size_t) = ordersheet_longest_run;
 static ordersheet_gang_plan (*const gang_plan)(const uint8_t *, size_t) = ordersheet_gangs;
@@ -594,6 +595,175 @@ static void reasons(void)
     deepest("a reason, the deepest tree by first children", 0, 1);
 }
 
+/* A pair list and hours, and what is behind them; copies of both. */
+enum { ORDERS = ORDERSHEET_REDUCED_AREA / 2 }; /* the most */
+static uint16_t list[2 * (ORDERS + 1) + BEHIND], list_before[2 * (ORDERS + 1) + BEHIND], hours[ORDERSHEET_JOBS + 1 + BEHIND], hours_before[ORDERSHEET_JOBS + 1 + BEHIND];
+static size_t numbers;
+
+/* No orders, and job i of `most` - i hours. */
+static void listed(void)
+{
+    memset(list, FILL, sizeof list);
+    memset(hours, FILL, sizeof hours);
+    numbers = 0;
+    for (unsigned i = 0; i <= ORDERSHEET_JOBS; i++)
+        hours[i] = (uint16_t)(most - i);
+}
+static void pair(unsigned u, unsigned v)
+{
+    list[numbers++] = (uint16_t)u;
+    list[numbers++] = (uint16_t)v;
+}
+
+/* With this order more, so many jobs with so many hours and the list have this answer; list and hours stay as they are. */
+static uint64_t previewed(const char *name, unsigned jobs, size_t hours_length, unsigned u, unsigned v)
+{
+    memcpy(list_before, list, sizeof list);
+    memcpy(hours_before, hours, sizeof hours);
+    uint64_t answer = preview((uint16_t)jobs, list, numbers, hours, hours_length, (uint16_t)u, (uint16_t)v);
+    check(name, "the list changed", memcmp(list, list_before, sizeof list) == 0);
+    check(name, "the hours changed", memcmp(hours, hours_before, sizeof hours) == 0);
+    return answer;
+}
+static void previews(const char *name, unsigned jobs, size_t hours_length, unsigned u, unsigned v, unsigned number, unsigned first, unsigned second, unsigned third,
+                     unsigned fourth)
+{
+    is(name, previewed(name, jobs, hours_length, u, v), number, first, second, third, fourth);
+}
+
+/* It is the answer for the sheet that has this order at its end. */
+static void as_a_sheet(const char *name, unsigned jobs, unsigned u, unsigned v)
+{
+    char what[200];
+    start(jobs);
+    for (size_t i = 0; i < numbers; i += 2)
+        order(list[i], list[i + 1]);
+    order(u, v);
+    uint64_t answer = previewed(name, jobs, jobs, u, v);
+    uint64_t written = analyse((const uint8_t *)sheet, length, record, ORDERSHEET_RECORD_AREA, reduced, ORDERSHEET_REDUCED_AREA);
+    snprintf(what, sizeof what, "order %u %u: the preview is %016" PRIx64 ", the answer for the sheet %016" PRIx64, u, v, answer, written);
+    check(name, what, answer == written);
+}
+
+/* Every order of two of so many jobs, or of one that they do not have. */
+static void every(const char *name, unsigned jobs, unsigned step)
+{
+    for (unsigned u = 0; u <= jobs; u += step)
+        for (unsigned v = 0; v <= jobs; v += step)
+            as_a_sheet(name, jobs, u, v);
+}
+
+static void one_more(void)
+{
+    /* DESK.md's list */
+    listed();
+    pair(0, 1);
+    pair(0, 2);
+    pair(1, 3);
+    pair(2, 3);
+    pair(0, 3);
+    previews("a preview, the last of all", 5, 5, 3, 4, 0, 16, 5, 2, 0);
+    previews("a preview, an order of the list", 5, 5, 0, 1, 0, 17, 4, 3, 0);
+    previews("a preview, an order that follows", 5, 5, 0, 3, 0, 17, 4, 3, 0);
+    previews("a preview, between two free jobs", 5, 5, 1, 2, 0, 16, 3, 2, 0);
+    previews("a preview, a circle", 5, 5, 3, 1, 7, 1, 0, 0, 0);
+    previews("a preview, a circle of all", 5, 5, 3, 0, 7, 0, 0, 0, 0);
+    previews("a preview, crossed", 5, 5, 1, 4, 8, 2, 1, 3, 4);
+    previews("a preview, crossed the other way", 5, 5, 4, 1, 8, 4, 0, 1, 2);
+    previews("a preview, no second job", 5, 5, 0, 5, 5, 5, 0, 0, 0);
+    previews("a preview, no first job", 5, 5, 5, 0, 5, 5, 0, 0, 0);
+    previews("a preview, no job twice", 5, 5, UINT16_MAX, UINT16_MAX, 5, 5, 0, 0, 0);
+    previews("a preview, a job's number in its last 8 bits", 5, 5, 256, 4, 5, 5, 0, 0, 0);
+    previews("a preview, a job before itself", 5, 5, 4, 4, 6, 5, 0, 0, 0);
+    previews("a preview, no jobs", 0, 0, 0, 1, 3, 0, 0, 0, 0);
+    previews("a preview, no jobs and hours", 0, 5, 0, 1, 3, 0, 0, 0, 0);
+    previews("a preview, a job too many", ORDERSHEET_JOBS + 1, ORDERSHEET_JOBS + 1, 0, 1, 3, 0, 0, 0, 0);
+    previews("a preview, a count of 256 and one job", 256 + 1, 1, 0, 1, 3, 0, 0, 0, 0);
+    previews("a preview, the greatest count", UINT16_MAX, 5, 0, 1, 3, 0, 0, 0, 0);
+    previews("a preview, hours short", 5, 4, 3, 4, 12, 0, 0, 0, 0);
+    previews("a preview, hours too many", 5, 6, 3, 4, 12, 0, 0, 0, 0);
+    previews("a preview, hours short, and no job", 4, 3, 9, 9, 12, 0, 0, 0, 0);
+    previews("a preview, a job of the list not below the count", 3, 3, 9, 0, 5, 2, 0, 0, 0);
+    every("a preview, DESK.md's list", 5, 1);
+    hours[3] = ORDERSHEET_HOURS + 1;
+    hours[4] = UINT16_MAX;
+    previews("a preview, hours above the most", 5, 5, 9, 9, 13, 3, 0, 0, 0);
+    previews("a preview, hours short and above the most", 5, 4, 0, 1, 12, 0, 0, 0, 0);
+    hours[3] = ORDERSHEET_HOURS;
+    previews("a preview, hours above the most, the last job", 5, 5, 3, 4, 13, 4, 0, 0, 0);
+    numbers--;
+    previews("a preview, an odd list", 5, 5, 3, 4, 2, 0, 0, 0, 0);
+    previews("a preview, an odd list and no jobs", 0, 4, 9, 9, 2, 0, 0, 0, 0);
+    numbers = 1;
+    previews("a preview, one number", 5, 5, 3, 4, 2, 0, 0, 0, 0);
+
+    /* Faults of the list, and of the order as well: 5 ahead of 6, the first of each, 6 ahead of 7, 7 ahead of 8. */
+    listed();
+    pair(0, 0);
+    pair(1, 1);
+    previews("a preview, 6 in the list", 4, 4, 2, 2, 6, 0, 0, 0, 0);
+    previews("a preview, 6 in the list and 5", 4, 4, 2, 4, 5, 2, 0, 0, 0);
+    list[1] = 1;
+    list[3] = 0;
+    previews("a preview, a circle in the list and 6", 4, 4, 3, 3, 6, 2, 0, 0, 0);
+    previews("a preview, a circle in the list", 4, 4, 2, 3, 7, 0, 0, 0, 0);
+    listed();
+    pair(0, 2);
+    pair(1, 2);
+    previews("a preview, four jobs crossed by the last order", 4, 4, 1, 3, 8, 0, 1, 2, 3);
+    pair(1, 3);
+    previews("a preview, a crossed list uncrossed", 4, 4, 0, 3, 0, 15, 4, 3, 0);
+    previews("a preview, a crossed list and a circle", 4, 4, 3, 1, 7, 1, 0, 0, 0);
+    every("a preview, a crossed list", 4, 1);
+
+    listed();
+    previews("a preview, one job", 1, 1, 0, 0, 6, 0, 0, 0, 0);
+    previews("a preview, one job and another", 1, 1, 0, 1, 5, 0, 0, 0, 0);
+    previews("a preview, no list", 2, 2, 1, 0, 0, 7, 1, 1, 0);
+    every("a preview, no list", 3, 1);
+    every("a preview, no list of the most jobs", ORDERSHEET_JOBS, 16);
+    is("a preview, an empty list with no area", preview(2, NULL, 0, hours, 2, 1, 0), 0, 7, 1, 1, 0);
+    is("a preview, no hours with no area", preview(2, NULL, 0, NULL, 0, 1, 0), 12, 0, 0, 0, 0);
+    is("a preview, no jobs and no areas", preview(0, NULL, 0, NULL, 0, 0, 0), 3, 0, 0, 0, 0);
+
+    /* 124 before 126, 125 before 126, then 125 before 127 */
+    pair(124, 126);
+    pair(125, 126);
+    previews("a preview, the last four crossed", ORDERSHEET_JOBS, ORDERSHEET_JOBS, 125, 127, 8, 124, 125, 126, 127);
+
+    /* 64 jobs before 64 others: the last of 4,096 orders, and one more. */
+    listed();
+    for (unsigned u = 0; u < 64; u++)
+        for (unsigned v = 64; v < 128; v++)
+            if (u != 63 || v != 127)
+                pair(u, v);
+    previews("a preview, the last order that there is room for", ORDERSHEET_JOBS, ORDERSHEET_JOBS, 63, 127, 0, 325, ORDERS, 3, 0);
+    previews("a preview, the last order, and no job", ORDERSHEET_JOBS, ORDERSHEET_JOBS, 128, 127, 5, ORDERS - 1, 0, 0, 0);
+    previews("a preview, the last order, a job before itself", ORDERSHEET_JOBS, ORDERSHEET_JOBS, 127, 127, 6, ORDERS - 1, 0, 0, 0);
+    every("a preview, 4,095 orders", ORDERSHEET_JOBS, 32);
+    pair(63, 127);
+    previews("a preview, a full list", ORDERSHEET_JOBS, ORDERSHEET_JOBS, 0, 127, 4, 0, 0, 0, 0);
+    previews("a preview, a full list and no job", ORDERSHEET_JOBS, ORDERSHEET_JOBS, 128, 128, 4, 0, 0, 0, 0);
+    previews("a preview, a full list and hours short", ORDERSHEET_JOBS, ORDERSHEET_JOBS - 1, 0, 127, 4, 0, 0, 0, 0);
+    previews("a preview, a full list and no jobs", 0, 0, 0, 127, 3, 0, 0, 0, 0);
+    previews("a preview, a full list and a job too many", ORDERSHEET_JOBS + 1, ORDERSHEET_JOBS, 0, 127, 3, 0, 0, 0, 0);
+    hours[0] = ORDERSHEET_HOURS + 1;
+    previews("a preview, a full list and hours above the most", ORDERSHEET_JOBS, ORDERSHEET_JOBS, 0, 127, 4, 0, 0, 0, 0);
+    numbers++;
+    previews("a preview, a full list and a number", ORDERSHEET_JOBS, ORDERSHEET_JOBS, 0, 127, 2, 0, 0, 0, 0);
+    previews("a preview, a full list, a number and no jobs", 0, 0, 0, 127, 2, 0, 0, 0, 0);
+    numbers++;
+    previews("a preview, more than a full list", ORDERSHEET_JOBS, ORDERSHEET_JOBS, 0, 127, 4, 0, 0, 0, 0);
+
+    /* The deepest tree, with its last order and without: the longest record. */
+    listed();
+    for (unsigned u = 0; u < 128; u += 2)
+        for (unsigned v = u + 1; v < 128; v++)
+            if (u != 126)
+                pair(u, v);
+    previews("a preview, the longest record", ORDERSHEET_JOBS, ORDERSHEET_JOBS, 126, 127, 0, ORDERSHEET_RECORD_AREA, 127, 127, 0);
+}
+
 /* Lengths of 0 with no area, and lengths of more than 32 bits. */
 static void any_length(void)
 {
@@ -608,8 +778,8 @@ static void any_length(void)
 
     /* Only the first page can be read or written. */
     size_t long_room = (size_t)1 << 32;
-    uint8_t *area = mmap(NULL, long_room + 2, PROT_NONE, MAP_PRIVATE | MAP_ANONYMOUS | MAP_NORESERVE, -1, 0);
-    check("an area of 2^32 + 2 bytes", "there is none", area != MAP_FAILED && mprotect(area, 4096, PROT_READ | PROT_WRITE) == 0);
+    uint8_t *area = mmap(NULL, 2 * long_room + 4, PROT_NONE, MAP_PRIVATE | MAP_ANONYMOUS | MAP_NORESERVE, -1, 0);
+    check("an area of 2^33 + 4 bytes", "there is none", area != MAP_FAILED && mprotect(area, 4096, PROT_READ | PROT_WRITE) == 0);
     if (area == MAP_FAILED)
         return;
     is("2^32 + 2 bytes as a record", reread(area, long_room + 2, NULL, 0), 11, 0, 0, 0, 0);
@@ -618,6 +788,11 @@ static void any_length(void)
     is("a sheet of 2^32 + 2 bytes", analyse(area, long_room + 2, bytes, 4, NULL, 0), 1, 0, 0, 0, 0);
     is("a record area of 2^32 bytes", analyse((const uint8_t *)one, sizeof one - 1, area, long_room, NULL, 0), 0, 4, 0, 0, 0);
     is("an area of 2^32 bytes for orders", analyse((const uint8_t *)two, sizeof two - 1, record, sizeof record, area, long_room), 0, 7, 1, 1, 0);
+    const uint16_t *words = (const uint16_t *)(const void *)area;
+    is("a list of 2^32 + 2 numbers", preview(2, words, long_room + 2, hours, 2, 1, 0), 4, 0, 0, 0, 0);
+    is("a list of 2^32 + 2 numbers and no jobs", preview(0, words, long_room + 2, hours, 2, 1, 0), 3, 0, 0, 0, 0);
+    is("a list of 2^32 + 1 numbers", preview(2, words, long_room + 1, hours, 2, 1, 0), 2, 0, 0, 0, 0);
+    is("hours of 2^32 + 2 numbers", preview(2, NULL, 0, words, long_room + 2, 1, 0), 12, 0, 0, 0, 0);
     is("an area of 2^32 bytes for orders read", reread(record, 7, area, long_room), 0, 7, 1, 1, 0);
 }
 
@@ -635,6 +810,7 @@ int main(void)
     longest_runs();
     fewest_gangs();
     reasons();
+    one_more();
     any_length();
     printf("%u passed, %u failed\n", passed, failed);
     return passed == 0 || failed != 0;

@@ -23,6 +23,9 @@ static ordersheet_run run;
 static ordersheet_gang_plan plan;
 static ordersheet_ruling ruling;
 static uint16_t first, second;
+static uint16_t hours[ORDERSHEET_JOBS + 1], list[2 * (ORDERSHEET_REDUCED_AREA / 2 + 1)];
+static size_t hours_length, list_length;
+static uint16_t count;
 static ucontext_t back, there;
 static size_t most;
 static int wrong;
@@ -32,6 +35,7 @@ static void analyse(void)
 {
     answer = ordersheet_analyse((const uint8_t *)sheet, length, record, sizeof record, reduced, sizeof reduced);
 }
+static void preview(void) { answer = ordersheet_preview(count, list, list_length, hours, hours_length, first, second); }
 static void reread(void) { answer = ordersheet_read(record, bytes, reduced, sizeof reduced); }
 static void longest_run(void)
 {
@@ -81,13 +85,41 @@ static void measure(const char *name, void (*call)(void), unsigned number)
         wrong = 1;
 }
 
+/* The sheet, and the same as a pair list and hours. */
 static void start(unsigned jobs)
 {
     length = (size_t)sprintf(sheet, "%u%s", jobs, end);
-    for (unsigned i = 0; i < jobs; i++)
+    count = (uint16_t)jobs;
+    hours_length = jobs;
+    list_length = 0;
+    for (unsigned i = 0; i < jobs; i++) {
+        hours[i] = (uint16_t)(ORDERSHEET_HOURS - i);
         length += (size_t)sprintf(sheet + length, "%u%s", ORDERSHEET_HOURS - i, end);
+    }
 }
-static void order(unsigned u, unsigned v) { length += (size_t)sprintf(sheet + length, "%u %u%s", u, v, end); }
+static void order(unsigned u, unsigned v)
+{
+    list[list_length++] = (uint16_t)u;
+    list[list_length++] = (uint16_t)v;
+    length += (size_t)sprintf(sheet + length, "%u %u%s", u, v, end);
+}
+
+/* This order after the list. */
+static void previewed(const char *name, unsigned u, unsigned v, unsigned number)
+{
+    char text[100];
+    first = (uint16_t)u;
+    second = (uint16_t)v;
+    snprintf(text, sizeof text, "preview: %s", name);
+    measure(text, preview, number);
+}
+/* The list's last order after the others. */
+static void previewed_last(const char *name, unsigned number)
+{
+    list_length -= 2;
+    previewed(name, list[list_length], list[list_length + 1], number);
+    list_length += 2;
+}
 
 /* The bytes of the record area, read, for their longest run, for their gangs and for the reason between job 0 and the last job, each with this answer; a record
  * also for the reason between job 0 and a job that it does not have. */
@@ -111,12 +143,14 @@ static void offered(const char *name, unsigned number)
     measure(text, reason, 14);
 }
 
-/* The sheet, and its record, in full and cut off by a byte. */
+/* The sheet, its last order previewed, and its record, in full and cut off by a byte. */
 static void all(const char *name)
 {
     char text[100];
     snprintf(text, sizeof text, "analysis: %s", name);
     measure(text, analyse, 0);
+    if (list_length > 0)
+        previewed_last(name, 0);
     bytes = ordersheet_first(answer);
     offered(name, 0);
     bytes--;
@@ -168,6 +202,18 @@ int main(void)
             if (u != 63 || v != 64)
                 order(u, v);
     measure("analysis: 4,095 of them, crossed", analyse, 8);
+    previewed_last("4,095 of them, crossed", 8);
+    previewed("4,096 orders, a circle", 64, 0, 7);
+    previewed("4,096 orders, a job before itself", 64, 64, 6);
+    previewed("4,096 orders, no such job", 64, 128, 5);
+    hours[127] = ORDERSHEET_HOURS + 1;
+    previewed("4,096 orders, hours above the most", 63, 64, 13);
+    hours_length--;
+    previewed("4,096 orders, hours short", 63, 64, 12);
+    count = 0;
+    previewed("4,096 orders, no jobs", 63, 64, 3);
+    list_length--;
+    previewed("an odd list", 63, 64, 2);
     start(128);
     for (unsigned i = 0; i < 127; i += 2)
         for (unsigned j = i + 1; j < 128; j++)
@@ -200,16 +246,20 @@ int main(void)
     for (unsigned i = 1; i < 128; i++)
         order(i - 1, i);
     all("one chain of 128");
+    previewed("one chain of 128, a circle", 127, 0, 7);
     start(128);
     all("128 free jobs");
+    previewed("128 free jobs and an order", 0, 127, 0);
     start(1);
     all("one job");
+    previewed("one job, before itself", 0, 0, 6);
     end = "\r\n";
     start(128);
     for (unsigned i = 0; i < 4096; i++)
         order(100 + i % 14, 114 + i % 14);
     printf("%-80s            %6zu bytes of sheet\n", "the longest sheet", length);
     all("the longest sheet");
+    previewed("a full list", 100, 114, 4);
     nested("groups in groups, chain first", 0, 0);
     nested("groups in groups, side first", 0, 1);
     nested("the same after 127 leaves of a chain", 127, 0);

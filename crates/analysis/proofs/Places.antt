@@ -1,26 +1,35 @@
 -- The place of the first element that passes a test.
-use Prim.Native.Nat.{ℕ, suc, _≤_}
+use Prim.Native.Nat.{ℕ, suc, _≤_, _<_}
 use mathlib.Core.Path.{_≡_, refl, sym, ap, _∙_}
-use mathlib.Core.List.{List, [], _∷_, List·Memᴰ, List·Memᴰ·cases-cons, List·Memᴰ·not-nil}
+use mathlib.Core.List.{List, [], _∷_, List·Memᴰ, List·Memᴰ·head, List·Memᴰ·cases-cons, List·Memᴰ·not-nil, Memᴰ·append-right}
 use mathlib.Core.Bool.{Bool, true, false}
 use mathlib.Core.Option.{none, some, Option·map, Option·some-injective}
 use mathlib.Core.Logic.{_⊎_, ⊎-elim, ⊎-map, _↔_}
+use native.Mathlib.Omega.{arith}
 use lib.Dec.{leb, leb→le, le→leb}
+use lib.ListN.{length, length-append}
 use Rattle.poset.specs.Order.{Arc}
 use Rattle.poset.proofs.Laws.{decided, clash, T-true, true-T, or-cases, or-left, or-right, eqb-true, eqb-same, found-or-none, found-clash}
 use Rattle.relation.specs.Arcs.{placeFrom, place, outside, loop}
 use Rattle.analysis.specs.Claims.{FirstAt}
 
+module _ {ℓ κ} {A : Type ℓ} {P : A → Type κ} {xs : List A} {i : ℕ} (f : FirstAt P xs i) where
+  pub first-mem : (a : A) × List·Memᴰ a xs × P a
+  first-mem = (f .1, rw (f .3) (Memᴰ·append-right (f .0) (List·Memᴰ·head refl)), f .5)
+
+  pub first-below : i < length xs
+  first-below = omega (arith, ap length (f .3), length-append (f .0) (f .1 ∷ f .2), f .4)
+
+-- one place further on
+pub shifted {ℓ} : {A : Type ℓ} (p : A → Bool) (k : ℕ) (xs : List A) → placeFrom (suc k) p xs ≡ Option·map suc (placeFrom k p xs)
+unfolding placeFrom
+shifted p k [] = refl
+shifted p k (x ∷ xs) =
+    ⊎-elim (λ (e : p x ≡ true). rw (e, placeFrom)) (λ (e : p x ≡ false). rw (e, placeFrom) (shifted p (suc k) xs)) (decided (p x))
+
 module _ {ℓ κ} {A : Type ℓ} (p : A → Bool) (P : A → Type κ) (decides : (x : A) → (p x ≡ true) ↔ P x) where
   fails : (x : A) → p x ≡ false → P x → ⊥
   fails x e h = clash (decides x .1 h) e
-
-  -- one place further on
-  shifted : (k : ℕ) (xs : List A) → placeFrom (suc k) p xs ≡ Option·map suc (placeFrom k p xs)
-  unfolding placeFrom
-  shifted k [] = refl
-  shifted k (x ∷ xs) =
-      ⊎-elim (λ (e : p x ≡ true). rw (e, placeFrom)) (λ (e : p x ≡ false). rw (e, placeFrom) (shifted (suc k) xs)) (decided (p x))
 
   place-nil : place p [] ≡ none
   unfolding place placeFrom
@@ -32,11 +41,11 @@ module _ {ℓ κ} {A : Type ℓ} (p : A → Bool) (P : A → Type κ) (decides :
 
   place-later : (x : A) (xs : List A) {i : ℕ} → p x ≡ false → place p xs ≡ some i → place p (x ∷ xs) ≡ some (suc i)
   unfolding place placeFrom
-  place-later x xs e h = rw (e, placeFrom) (shifted 0 xs ∙ ap (Option·map suc) h)
+  place-later x xs e h = rw (e, placeFrom) (shifted p 0 xs ∙ ap (Option·map suc) h)
 
   place-past : (x : A) (xs : List A) → p x ≡ false → place p xs ≡ none → place p (x ∷ xs) ≡ none
   unfolding place placeFrom
-  place-past x xs e h = rw (e, placeFrom) (shifted 0 xs ∙ ap (Option·map suc) h)
+  place-past x xs e h = rw (e, placeFrom) (shifted p 0 xs ∙ ap (Option·map suc) h)
 
   pub place-first : (xs : List A) (i : ℕ) → place p xs ≡ some i → FirstAt P xs i
   place-first [] i h = absurd (found-clash h place-nil)
@@ -79,6 +88,9 @@ module _ {ℓ κ} {A : Type ℓ} (p : A → Bool) (P : A → Type κ) (decides :
       (found-or-none (place p xs)))
       (List·Memᴰ·cases-cons m))
       (decided (p x))
+
+  pub no-place : (xs : List A) → ((x : A) × List·Memᴰ x xs × P x → ⊥) → place p xs ≡ none
+  no-place xs h = ⊎-elim (λ f. absurd (h (first-mem (place-first xs (f .0) (f .1))))) (λ e. e) (found-or-none (place p xs))
 
 pub outside-is : (n : ℕ) (a : Arc) → (outside n a ≡ true) ↔ ((n ≤ a .0) ⊎ (n ≤ a .1))
 unfolding outside

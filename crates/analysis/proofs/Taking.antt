@@ -19,7 +19,7 @@ use Rattle.writer.specs.Written.{written}
 use Rattle.writer.specs.declared.writing.Written.{Written}
 use Rattle.writer.proofs.Spelling.{bytes-count, bytes-are}
 use Rattle.analysis.specs.Answer.{answer}
-use Rattle.analysis.specs.Outcome.{Outcome, refuse, accept, arcsFit, fitted, decomposed}
+use Rattle.analysis.specs.Outcome.{Rooms, Outcome, refuse, accept, arcsFit, fitted, decomposed}
 use Rattle.analysis.specs.Result.{refusal, rooms, Gives}
 use Rattle.analysis.specs.declared.Verdict.the-variants as verdict
 use Rattle.analysis.proofs.Crossing.{gives-same, gives-refusal, tree-outcome}
@@ -34,27 +34,28 @@ count-few n r t count few strict same counts = omega (arith, reduction-fits n r 
 
 -- the room for a record, then for the reduced orders
 
-module _ (bytes area : List ℕ) (o : Outcome) where
-  short-record : length bytes < length (o .bytes) → fitted (rooms bytes area) o ≡ refuse 9 0 0 0 0
+module _ (rs : Rooms) (o : Outcome) where
+  pub short-record : rs .record-room < length (o .bytes) → fitted rs o ≡ refuse 9 0 0 0 0
   unfolding fitted
-  short-record l = rw (fitted, lt-true (length bytes) (length (o .bytes)) l)
+  short-record l = rw (fitted, lt-true (rs .record-room) (length (o .bytes)) l)
 
-  long-record : length (o .bytes) ≤ length bytes → fitted (rooms bytes area) o ≡ arcsFit (length area) o
+  pub long-record : length (o .bytes) ≤ rs .record-room → fitted rs o ≡ arcsFit (rs .arc-room) o
   unfolding fitted
   long-record l =
-      let no-more : ltb (length bytes) (length (o .bytes)) ≡ false =
-      false-unless (ltb (length bytes) (length (o .bytes))) (λ h. omega (arith, ltb-true (length bytes) (length (o .bytes)) h)) in
+      let no-more : ltb (rs .record-room) (length (o .bytes)) ≡ false =
+      false-unless (ltb (rs .record-room) (length (o .bytes))) (λ h. omega (arith, ltb-true (rs .record-room) (length (o .bytes)) h)) in
       rw (fitted, no-more)
 
-  short-arcs : length area < 2 * length (o .arcs) → arcsFit (length area) o ≡ refuse 10 0 0 0 0
+module _ (room : ℕ) (o : Outcome) where
+  pub short-arcs : room < 2 * length (o .arcs) → arcsFit room o ≡ refuse 10 0 0 0 0
   unfolding arcsFit
-  short-arcs l = rw (arcsFit, lt-true (length area) (2 * length (o .arcs)) l)
+  short-arcs l = rw (arcsFit, lt-true room (2 * length (o .arcs)) l)
 
-  long-arcs : 2 * length (o .arcs) ≤ length area → arcsFit (length area) o ≡ o
+  pub long-arcs : 2 * length (o .arcs) ≤ room → arcsFit room o ≡ o
   unfolding arcsFit
   long-arcs l =
-      let no-more : ltb (length area) (2 * length (o .arcs)) ≡ false =
-      false-unless (ltb (length area) (2 * length (o .arcs))) (λ h. omega (arith, ltb-true (length area) (2 * length (o .arcs)) h)) in
+      let no-more : ltb room (2 * length (o .arcs)) ≡ false =
+      false-unless (ltb room (2 * length (o .arcs))) (λ h. omega (arith, ltb-true room (2 * length (o .arcs)) h)) in
       rw (arcsFit, no-more)
 
 -- what an order yields: a record of so many bytes, those of it that are written, the reduction, the sequences and the hours
@@ -79,13 +80,13 @@ module _ (n : ℕ) (hours : List ℕ) (r : Rel) (t : Tree) (size : ℕ) (written
   pub gives-short : length area < 2 * count → Gives whole bytes area (refusal verdict.ArcRoom) bytes area
   gives-short l =
       gives-refusal verdict.ArcRoom whole bytes area 10 0 0 0 0
-      (fits ∙ short-arcs bytes area (yielded size written n hours r t) (omega (arith, arcs-length))) refl
+      (fits ∙ short-arcs (length area) (yielded size written n hours r t) (omega (arith, arcs-length))) refl
 
   pub gives-long : 2 * count ≤ length area → (k : ℕ) (forward reverse all bytes′ area′ : List ℕ) → k ≡ groups t → forward ≡ padded (leaves t)
       → reverse ≡ padded (reversed t) → all ≡ padded hours → bytes′ ≡ overlay written bytes → area′ ≡ overlay (arcBytes (pairsOf n (holds red))) area
       → Gives whole bytes area (record { verdict = verdict.Accepted size count k; forward = forward; reverse = reverse; hours = all }) bytes′ area′
   gives-long l k forward reverse all bytes′ area′ number forth back times spelt listed =
-      gives-same (sym (fits ∙ long-arcs bytes area (yielded size written n hours r t) (omega (arith, arcs-length))))
+      gives-same (sym (fits ∙ long-arcs (length area) (yielded size written n hours r t) (omega (arith, arcs-length))))
       (record {
         answers = ap₂ (λ (c g : ℕ). answer 0 size c g 0) (sym arcs-length) number;
         record-is = spelt;
@@ -113,14 +114,14 @@ module _ (n : ℕ) (few : n ≤ 128) (hours : List ℕ) (r : Rel) (strict : Stri
   unfolding accept
   fitting l =
       accepted
-      ∙ long-record bytes area (accept n hours r t) (omega (arith, record-length))
+      ∙ long-record (rooms bytes area) (accept n hours r t) (omega (arith, record-length))
       ∙ ap (λ (k : ℕ). arcsFit (length area) (yielded k (layout n hours t) n hours r t)) record-length
 
   pub gives-9 : length bytes < w .count → Gives whole bytes area (refusal verdict.RecordRoom) bytes area
   unfolding accept
   gives-9 l =
       gives-refusal verdict.RecordRoom whole bytes area 9 0 0 0 0
-      (accepted ∙ short-record bytes area (accept n hours r t) (omega (arith, record-length))) refl
+      (accepted ∙ short-record (rooms bytes area) (accept n hours r t) (omega (arith, record-length))) refl
 
   pub gives-10 : w .count ≤ length bytes → length area < 2 * count → Gives whole bytes area (refusal verdict.ArcRoom) bytes area
   gives-10 l = gives-short n hours r t (w .count) (layout n hours t) red same count counts bytes area whole (fitting l)

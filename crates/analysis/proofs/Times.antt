@@ -1,6 +1,6 @@
 -- Hours in an array with an entry for each of 128 jobs.
 use Prim.Native.Nat.{ℕ, suc, _+_, _-_, _^_, _≤_, _<_}
-use mathlib.Core.Path.{_≡_, refl, sym, ap, _∙_}
+use mathlib.Core.Path.{_≡_, refl, sym, ap, subst, _∙_}
 use mathlib.Core.List.{List, _∷_, _++_}
 use mathlib.Core.Bool.{Bool, true, false}
 use mathlib.Core.Option.{Option, none, some}
@@ -15,8 +15,9 @@ use Rattle.poset.specs.Tree.{Tree}
 use Rattle.relation.specs.Arcs.{placeFrom, place}
 use Rattle.record.specs.Bits.{AllBelow, bits, bytesOf}
 use Rattle.record.specs.Layout.{hoursBits, mostHours, layout}
-use Rattle.record.proofs.Entries.{entry-padded, tree-agree}
+use Rattle.record.proofs.Entries.{entry-padded, padded-below, tree-agree}
 use Rattle.writer.specs.Written.{written}
+use Rattle.writer.specs.declared.writing.Written.{Written}
 use Rattle.writer.proofs.Shaping.{drop-replicate}
 use Rattle.analysis.proofs.Places.{place-none}
 use Rattle.analysis.proofs.Fates.{ltb-is}
@@ -87,6 +88,14 @@ unfolding layout
 layout-padded n hours t =
     ap (λ (l : List ℕ). bytesOf (bits 7 (n - 1) ++ l)) (tree-agree (padded hours) hours t (λ j _. entry-padded hours (128 - length hours) j))
 
-pub written-padded : (n : ℕ) (hours : List ℕ) (o : Option Tree) → written n (padded hours) o ≡ written n hours o
+written-padded : (n : ℕ) (hours : List ℕ) (o : Option Tree) → written n (padded hours) o ≡ written n hours o
 written-padded n hours none = refl
 written-padded n hours (some t) = rw (layout-padded n hours t)
+
+-- an array of all entries, of which a record is written
+module _ (hours : List ℕ) {all : List ℕ} (is : all ≡ padded hours) where
+  pub all-below : AllBelow (2 ^ hoursBits) hours → AllBelow (2 ^ hoursBits) all
+  all-below low = subst (AllBelow (2 ^ hoursBits)) (sym is) (padded-below hours low)
+
+  pub written-all : (n : ℕ) (o : Option Tree) {w : Written} → w ≡ written n all o → w ≡ written n hours o
+  written-all n o e = e ∙ ap (λ (h : List ℕ). written n h o) is ∙ written-padded n hours o

@@ -1,11 +1,11 @@
 -- How large the places of an answer are.
 use Prim.Native.Nat.{ℕ, _≤_, _<_}
-use mathlib.Core.Path.{_≡_, refl, ap}
-use mathlib.Core.List.{List, _∷_}
+use mathlib.Core.Path.{_≡_, refl}
+use mathlib.Core.List.{List}
 use mathlib.Core.Logic.{_⊎_, inl, inr, ⊎-elim}
 use native.Mathlib.Decide.{ℕ-discrete}
 use native.Mathlib.Omega.{arith}
-use lib.ListN.{length, length-append}
+use lib.ListN.{length}
 use Rattle.poset.specs.Order.{Arc, Rel, Strict, before, reduction}
 use Rattle.poset.specs.Tree.{Tree, Spans, groups, precedes}
 use Rattle.poset.proofs.Theorems.{reduction-fits, tree-is-strict}
@@ -15,10 +15,11 @@ use Rattle.record.proofs.Theorems.{layout-length}
 use Rattle.relation.specs.Arcs.{pairs}
 use Rattle.sheet.proofs.Theorems.{scan-place}
 use Rattle.analysis.specs.Answer.{Answer, answer}
-use Rattle.analysis.specs.Outcome.{Rooms, Outcome, refuse, accept, readBack, sheetOutcome, pairOutcome, recordOutcome}
+use Rattle.analysis.specs.Outcome.{Rooms, roomy, Outcome, refuse, accept, readBack, sheetOutcome, pairOutcome, recordOutcome}
 use Rattle.analysis.specs.Claims.{FirstAt}
 use Rattle.analysis.proofs.Fates.{run-below, all-within, clear-count, clear-strict}
 use Rattle.analysis.proofs.Fates.{Fate, miscounted, many, untimed, overtime, outlying, looping, cyclic, crossed, long, wide, done}
+use Rattle.analysis.proofs.Places.{first-below}
 use Rattle.analysis.proofs.Inputs.{SheetFate, oversize, misformed, formed, sheet-fate}
 use Rattle.analysis.proofs.Inputs.{PairFate, odd, even, pair-fate, RecordFate, misspelt, broad, read, record-fate}
 use Rattle.longest.specs.Outcome.{runOutcome}
@@ -27,6 +28,7 @@ use Rattle.gangs.specs.Outcome.{gangOutcome}
 use Rattle.gangs.proofs.Records.{gangs-verdict}
 use Rattle.reason.specs.Outcome.{ReasonOutcome, treeReason, reasonOutcome}
 use Rattle.reason.proofs.Records.{Ways, no-record, no-job, reasoned, reason-ways}
+use Rattle.preview.specs.Outcome.{withOrder, previewed}
 use Rattle.desk.proofs.Packing.{Narrow}
 
 -- a refusal that names one place at most
@@ -54,9 +56,6 @@ counts n hours t r few spans strict =
       third-fits = omega arith;
       fourth-fits = omega arith;
     }
-
-first-below {ℓ κ} : {A : Type ℓ} {P : A → Type κ} {xs : List A} {i : ℕ} → FirstAt P xs i → i < length xs
-first-below f = omega (arith, ap length (f .3), length-append (f .0) (f .1 ∷ f .2), f .4)
 
 module _ (rooms : Rooms) (n : ℕ) (hours : List ℕ) (arcs : List Arc) where
   -- a place among the orders, where there are not too many
@@ -110,6 +109,10 @@ pair-told rooms n hours list (even e h) = fate-narrow rooms n hours (pairs list)
 
 pub pair-narrow : (rooms : Rooms) (n : ℕ) (hours list : List ℕ) → Narrow (pairOutcome rooms n hours list .verdict)
 pair-narrow rooms n hours list = pair-told rooms n hours list (pair-fate rooms n hours list)
+
+pub preview-narrow : (n : ℕ) (hours list : List ℕ) (first second : ℕ) → Narrow (previewed n hours list first second)
+unfolding previewed
+preview-narrow n hours list first second = pair-narrow roomy n hours (withOrder list first second)
 
 record-told : (room : ℕ) (bytes : List ℕ) {o : Outcome} → RecordFate room bytes o → Narrow (o .verdict)
 unfolding readBack

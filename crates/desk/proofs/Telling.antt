@@ -27,7 +27,7 @@ packed-in-row e h = h ∙ ap (λ (l : List ℕ). packed (cut (inRow l))) e
 
 -- the verdict of an outcome, of which nothing is cut off
 
-answer-told : {a b : Answer} {r : ℕ} → a ≡ b → Narrow b → r ≡ packed (cut a) → r ≡ packed b
+pub answer-told : {a b : Answer} {r : ℕ} → a ≡ b → Narrow b → r ≡ packed (cut a) → r ≡ packed b
 answer-told {b = b} e w h = h ∙ ap (λ x. packed (cut x)) e ∙ ap packed (cut-narrow b w)
 
 pub gives-told

@@ -7,8 +7,9 @@ use Rattle.analysis.specs.Outcome.{Rooms, sheetOutcome, recordOutcome}
 use Rattle.longest.specs.Outcome.{runOutcome}
 use Rattle.gangs.specs.Outcome.{gangOutcome}
 use Rattle.reason.specs.Outcome.{reasonOutcome}
+use Rattle.preview.specs.Outcome.{previewed}
 use Rattle.desk.specs.Packed.{packed, unpacked}
-use Rattle.desk.proofs.Bounds.{sheet-narrow, record-narrow, run-narrow, gangs-narrow, reason-narrow}
+use Rattle.desk.proofs.Bounds.{sheet-narrow, record-narrow, run-narrow, gangs-narrow, reason-narrow, preview-narrow}
 use Rattle.desk.proofs.Packing.{unpacked-packed}
 
 pub unpacked-sheet : (rooms : Rooms) (s : List ℕ) → unpacked (packed (sheetOutcome rooms s .verdict)) ≡ sheetOutcome rooms s .verdict
@@ -26,3 +27,7 @@ unpacked-gangs bytes = unpacked-packed (gangOutcome bytes .verdict) (gangs-narro
 
 pub unpacked-reason : (bytes : List ℕ) (u v : ℕ) → unpacked (packed (reasonOutcome bytes u v .verdict)) ≡ reasonOutcome bytes u v .verdict
 unpacked-reason bytes u v = unpacked-packed (reasonOutcome bytes u v .verdict) (reason-narrow bytes u v)
+
+pub unpacked-preview
+    : (n : ℕ) (hours list : List ℕ) (first second : ℕ) → unpacked (packed (previewed n hours list first second)) ≡ previewed n hours list first second
+unpacked-preview n hours list first second = unpacked-packed (previewed n hours list first second) (preview-narrow n hours list first second)

@@ -1,6 +1,7 @@
 //! The planning desk's calls, for C: an answer is one number. An analysis hands back no sequences and no hours.
 pub mod answer;
 
+ghost use mathlib.Core.Path.{_≡_};
 ghost use mathlib.Core.List.{[]};
 ghost use lib.ListN.{length};
 ghost use Rattle.analysis.specs.Outcome.{sheetOutcome, recordOutcome};
@@ -8,6 +9,8 @@ ghost use Rattle.analysis.specs.Result.{rooms};
 ghost use Rattle.longest.specs.Outcome.{runOutcome};
 ghost use Rattle.gangs.specs.Outcome.{gangOutcome};
 ghost use Rattle.reason.specs.Outcome.{reasonOutcome};
+ghost use Rattle.preview.specs.Outcome.{previewed};
+ghost use Rattle.desk.specs.Packed.{packed};
 ghost use Rattle.desk.specs.Told.{Told, RunTold, GangsTold, ReasonTold};
 
 // The analysis of a sheet: the record and the reduced orders into the two areas.
@@ -105,4 +108,19 @@ pub extern "C" fn ordersheet_reason(bytes: &[u8], first: u16, second: u16) -> Re
         position: found.position as u64,
         jobs: found.jobs as u64,
     }
+}
+
+// The answer on a pair list with one more order at its end: two numbers for each order, and the hours of each job.
+#[no_mangle]
+pub extern "C" fn ordersheet_preview(
+    count: u16,
+    list: &[u16],
+    hours: &[u16],
+    first: u16,
+    second: u16,
+) -> u64
+    ensures { λ r. ⌜ r ≡ packed (previewed count (now (hours .entry)) (now (list .entry)) first second) ⌝ }
+{
+    let verdict = preview::preview_order(count, list, hours, first, second);
+    answer::packed(verdict)
 }

@@ -99,7 +99,7 @@ arc-mem arcs u v = (found, λ m. any-hit p m (and-intro _ _ (eqb-same u) (eqb-sa
         let e = eqb (f .0 .0) u in
         Memᴰ·cast (sym (Σ-path (eqb-true _ _ (and-left e _ (f .2))) (eqb-true (f .0 .1) v (and-right e _ (f .2))))) (f .1)
 
-run-append : {arcs : List Arc} {u w v : ℕ} → Run arcs u w → Run arcs w v → Run arcs u v
+pub run-append : {arcs : List Arc} {u w v : ℕ} → Run arcs u w → Run arcs w v → Run arcs u v
 run-append (one m) s = then m s
 run-append (then m t) s = then m (run-append t s)
 

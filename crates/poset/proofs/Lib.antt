@@ -4,6 +4,7 @@ pub mod Sums
 pub mod Distinct
 pub mod Searches
 pub mod Closure
+pub mod Growing
 pub mod Reduction
 pub mod Bound
 pub mod Standing

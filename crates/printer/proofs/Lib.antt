@@ -6,4 +6,3 @@ pub mod Arcs
 pub mod Lines
 pub mod FirstByte
 pub mod Given
-pub mod Enough

@@ -240,6 +240,7 @@ module _ (xs : List ℕ) where
 
   -- a table that has the first i arcs of each quarter, and no others
   pub record Built (q : ℕ) (t : List (List ℕ)) (i : ℕ) : Type 0 where
+    pub within : 3 * q + i ≤ length xs / 2
     pub words : Words t
     pub from : (u v : ℕ) → holds t u v ≡ true → arc (pairs xs) u v ≡ true
     pub first : From t 0 i
@@ -247,9 +248,10 @@ module _ (xs : List ℕ) where
     pub third : From t (2 * q) i
     pub fourth : From t (3 * q) i
 
-  pub built-none : (q : ℕ) → Built q (replicate 128 (replicate 2 0)) 0
-  built-none q =
+  pub built-none : (q : ℕ) → 3 * q ≤ length xs / 2 → Built q (replicate 128 (replicate 2 0)) 0
+  built-none q l =
       record {
+        within = omega arith;
         words = λ u l. ap length (getD-replicate 128 u (replicate 2 0) [] l);
         from = λ u v e. absurd (clash e (holds-blank 128 u v));
         first = λ k l. absurd (omega arith);
@@ -258,54 +260,76 @@ module _ (xs : List ℕ) where
         fourth = λ k l. absurd (omega arith);
       }
 
+  -- all arcs are there where the first three quarters are, and what is left after them
+  all-there
+      : (t : List (List ℕ)) (q i j : ℕ) → ((u v : ℕ) → holds t u v ≡ true → arc (pairs xs) u v ≡ true) → From t 0 j → From t q j → From t (2 * q) j
+      → From t (3 * q) i → q ≤ j → length xs / 2 ≤ 3 * q + i → (u v : ℕ) → holds t u v ≡ arc (pairs xs) u v
+  all-there t q i j from first second third fourth enough rest u v = same-test _ _ (from u v) back
+    where
+      within : (o m k : ℕ) → From t o m → o ≤ k → k < o + m → At t k
+      within o m k f l n = let s : o + (k - o) ≡ k = omega arith in rw s at (f (k - o) (omega arith))
+
+      at : (k : ℕ) → 2 * k + 1 < length xs → At t k
+      at k m =
+          elim (decLt k j) [
+            | yes d ↦ within 0 j k first (omega arith) (omega arith)
+            | no d ↦
+                elim (decLt k (q + j)) [
+                  | yes d′ ↦ within q j k second (omega arith) d′
+                  | no d′ ↦
+                      elim (decLt k (2 * q + j)) [
+                        | yes d″ ↦ within (2 * q) j k third (omega arith) d″
+                        | no d″ ↦ within (3 * q) i k fourth (omega arith) (omega arith)
+                      ]
+                ]
+          ]
+
+      back : arc (pairs xs) u v ≡ true → holds t u v ≡ true
+      back d =
+          let f = pairs-found xs (arc-mem (pairs xs) u v .0 d) in
+          subst (λ (a : Arc). holds t (a .0) (a .1) ≡ true) (f .2) (at (f .0) (f .1))
+
   module _ (q : ℕ) (t : List (List ℕ)) (i : ℕ) (b : Built q t i) where
-    pub built-end : q ≡ length xs / 8 → length xs / 2 - 3 * q ≤ i → (u v : ℕ) → holds t u v ≡ arc (pairs xs) u v
-    built-end e l u v = same-test _ _ (b .from u v) back
-      where
-        within : (o k : ℕ) → From t o i → o ≤ k → k < o + i → At t k
-        within o k f m n = let s : o + (k - o) ≡ k = omega arith in rw s at (f (k - o) (omega arith))
+    pub built-end : q ≤ i → length xs / 2 ≤ 3 * q + i → (u v : ℕ) → holds t u v ≡ arc (pairs xs) u v
+    built-end = all-there t q i i (b .from) (b .first) (b .second) (b .third) (b .fourth)
 
-        at : (k : ℕ) → 2 * k + 1 < length xs → At t k
-        at k m =
-            elim (decLt k i) [
-              | yes d ↦ within 0 k (b .first) (omega arith) (omega arith)
-              | no d ↦
-                  elim (decLt k (q + i)) [
-                    | yes d′ ↦ within q k (b .second) (omega arith) d′
-                    | no d′ ↦
-                        elim (decLt k (2 * q + i)) [
-                          | yes d″ ↦ within (2 * q) k (b .third) (omega arith) d″
-                          | no d″ ↦ within (3 * q) k (b .fourth) (omega arith) (omega arith)
-                        ]
-                  ]
-            ]
+    -- one arc more of the first three quarters
+    module _ (l : 2 * (2 * q + i) + 1 < length xs) (t₁ t₂ t₃ : List (List ℕ)) (p₁ : Puts t i t₁) (p₂ : Puts t₁ (q + i) t₂) (p₃ : Puts t₂ (2 * q + i) t₃) where
+      keeps₂ : (u v : ℕ) → holds t₁ u v ≡ true → holds t₃ u v ≡ true
+      keeps₂ u v e = put-keeps t₂ (2 * q + i) t₃ p₃ u v (put-keeps t₁ (q + i) t₂ p₂ u v e)
 
-        back : arc (pairs xs) u v ≡ true → holds t u v ≡ true
-        back d =
-            let f = pairs-found xs (arc-mem (pairs xs) u v .0 d) in
-            subst (λ (a : Arc). holds t (a .0) (a .1) ≡ true) (f .2) (at (f .0) (f .1))
-
-    module _ (l : 2 * (3 * q + i) + 1 < length xs) (t₁ t₂ t₃ t₄ : List (List ℕ))
-        (p₁ : Puts t i t₁) (p₂ : Puts t₁ (q + i) t₂) (p₃ : Puts t₂ (2 * q + i) t₃) (p₄ : Puts t₃ (3 * q + i) t₄) where
-      keeps₃ : (u v : ℕ) → holds t₂ u v ≡ true → holds t₄ u v ≡ true
-      keeps₃ u v e = put-keeps t₃ (3 * q + i) t₄ p₄ u v (put-keeps t₂ (2 * q + i) t₃ p₃ u v e)
-
-      keeps₂ : (u v : ℕ) → holds t₁ u v ≡ true → holds t₄ u v ≡ true
-      keeps₂ u v e = keeps₃ u v (put-keeps t₁ (q + i) t₂ p₂ u v e)
-
-      keeps : (u v : ℕ) → holds t u v ≡ true → holds t₄ u v ≡ true
+      keeps : (u v : ℕ) → holds t u v ≡ true → holds t₃ u v ≡ true
       keeps u v e = keeps₂ u v (put-keeps t i t₁ p₁ u v e)
 
-      pub built-next : Words t₄ → Built q t₄ (i + 1)
-      built-next w =
-          record {
-            words = w;
-            from =
-                put-from t₃ (3 * q + i) t₄ p₄ l
-                (put-from t₂ (2 * q + i) t₃ p₃ (omega arith) (put-from t₁ (q + i) t₂ p₂ (omega arith) (put-from t i t₁ p₁ (omega arith) (b .from))));
-            first = let z : 0 + i ≡ i = omega arith in from-next t t₄ 0 i keeps (rw z (keeps₂ _ _ (put-here t i t₁ p₁))) (b .first);
-            second = from-next t t₄ q i keeps (keeps₃ _ _ (put-here t₁ (q + i) t₂ p₂)) (b .second);
-            third =
-                from-next t t₄ (2 * q) i keeps (put-keeps t₃ (3 * q + i) t₄ p₄ _ _ (put-here t₂ (2 * q + i) t₃ p₃)) (b .third);
-            fourth = from-next t t₄ (3 * q) i keeps (put-here t₃ (3 * q + i) t₄ p₄) (b .fourth);
-          }
+      from₃ : (u v : ℕ) → holds t₃ u v ≡ true → arc (pairs xs) u v ≡ true
+      from₃ = put-from t₂ (2 * q + i) t₃ p₃ l (put-from t₁ (q + i) t₂ p₂ (omega arith) (put-from t i t₁ p₁ (omega arith) (b .from)))
+
+      first₃ : From t₃ 0 (i + 1)
+      first₃ = let z : 0 + i ≡ i = omega arith in from-next t t₃ 0 i keeps (rw z (keeps₂ _ _ (put-here t i t₁ p₁))) (b .first)
+
+      second₃ : From t₃ q (i + 1)
+      second₃ = from-next t t₃ q i keeps (put-keeps t₂ (2 * q + i) t₃ p₃ _ _ (put-here t₁ (q + i) t₂ p₂)) (b .second)
+
+      third₃ : From t₃ (2 * q) (i + 1)
+      third₃ = from-next t t₃ (2 * q) i keeps (put-here t₂ (2 * q + i) t₃ p₃) (b .third)
+
+      pub built-last : q ≤ i + 1 → length xs / 2 ≤ 3 * q + i → (u v : ℕ) → holds t₃ u v ≡ arc (pairs xs) u v
+      built-last = all-there t₃ q i (i + 1) from₃ first₃ second₃ third₃ (λ k m. keeps _ _ (b .fourth k m))
+
+      -- and of the last
+      module _ (m : 2 * (3 * q + i) + 1 < length xs) (t₄ : List (List ℕ)) (p₄ : Puts t₃ (3 * q + i) t₄) where
+        kept : (o : ℕ) → From t₃ o (i + 1) → From t₄ o (i + 1)
+        kept o f k n = put-keeps t₃ (3 * q + i) t₄ p₄ _ _ (f k n)
+
+        pub built-next : Words t₄ → Built q t₄ (i + 1)
+        built-next w =
+            record {
+              within = omega arith;
+              words = w;
+              from = put-from t₃ (3 * q + i) t₄ p₄ m from₃;
+              first = kept 0 first₃;
+              second = kept q second₃;
+              third = kept (2 * q) third₃;
+              fourth =
+                  from-next t t₄ (3 * q) i (λ u v e. put-keeps t₃ (3 * q + i) t₄ p₄ u v (keeps u v e)) (put-here t₃ (3 * q + i) t₄ p₄) (b .fourth);
+            }

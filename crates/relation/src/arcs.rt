@@ -88,19 +88,26 @@ fn put(t: &mut [[u64; 2]; 128], arcs: &[u16], k: usize)
 }
 
 // The table of the arcs. A step takes one arc of each quarter, since arcs side by side are often of one row, and the second would wait for
-// the first. Where their number is no multiple of four, quarters overlap.
+// the first. The quarters are those of one arc more where that makes a multiple of four: the last is one arc short then, and the arcs at the ends of the
+// others are put in after the loop. Where neither number is a multiple of four, quarters overlap.
 pub fn table_of(arcs: &[u16]) -> [[u64; 2]; 128]
     requires { ⌜ Within 128 (pairs (now arcs)) ⌝ }
     ensures { λ r. ⌜ ((u v : ℕ) → holds r u v ≡ arc (pairs (now (arcs .entry))) u v) ⌝ }
 {
     let none = [0u64; 2];
     let mut t = [none; 128];
-    let quarter = arcs.len() / 8;
-    for i in 0..arcs.len() / 2 - 3 * quarter {
+    let quarter = (arcs.len() / 2 + 1) / 4;
+    let last = arcs.len() / 2 - 3 * quarter;
+    for i in 0..last {
         put(&mut t, arcs, i);
         put(&mut t, arcs, quarter + i);
         put(&mut t, arcs, 2 * quarter + i);
         put(&mut t, arcs, 3 * quarter + i);
+    }
+    if last < quarter {
+        put(&mut t, arcs, last);
+        put(&mut t, arcs, quarter + last);
+        put(&mut t, arcs, 2 * quarter + last);
     }
     t
 }

@@ -3,10 +3,11 @@
 use crate::ffi::{self, Areas};
 use crate::generate::{damages, list};
 use crate::lent::Lent;
+use crate::preview::some_orders;
 use crate::reason::some_pairs;
 use second::joins::Joins;
 use second::tree::Tree;
-use second::{packed, Outcome};
+use second::{packed, Outcome, Preview};
 use std::collections::{BTreeMap, HashSet};
 use std::fmt::{Debug, Write};
 use std::hash::{DefaultHasher, Hash, Hasher};
@@ -37,16 +38,18 @@ impl Input {
         }
     }
 
-    /// The job count and pair list of orders, as a sheet in form has them too.
-    fn listed(&self, outcome: &Outcome) -> Option<(u16, Vec<u16>)> {
+    /// The job count, the pair list of orders and the hours, as a sheet in form has them
+    /// too.
+    fn listed(&self, outcome: &Outcome) -> Option<(u16, Vec<u16>, Vec<u16>)> {
         match self {
             // Not in form, and no need to read it again.
             Input::Sheet(_) if outcome.number == 2 => None,
             Input::Sheet(sheet) => {
                 let read = second::sheet::read(sheet).ok()?;
-                Some((read.count as u16, list(&read.orders)))
+                let hours = read.hours.iter().map(|&hours| hours as u16);
+                Some((read.count as u16, list(&read.orders), hours.collect()))
             }
-            Input::Pairs(count, list, _) => Some((*count, list.clone())),
+            Input::Pairs(count, list, hours) => Some((*count, list.clone(), hours.clone())),
             Input::Record(_) => None,
         }
     }
@@ -173,6 +176,8 @@ pub struct Tally {
     pub questions: [u64; 2],
     /// Pairs of job numbers asked for their reason: of each rule, refused by 14, by 11.
     pub reasons: [u64; 6],
+    /// Previews of one more order, by the answer's number.
+    pub previews: [u64; 14],
     /// Calls for a count of joins: without a circle, with one, refused.
     pub joins: [u64; 3],
     distinct: HashSet<u64>,
@@ -195,6 +200,9 @@ impl Tally {
         for (sum, calls) in self.reasons.iter_mut().zip(other.reasons) {
             *sum += calls;
         }
+        for (sum, calls) in self.previews.iter_mut().zip(other.previews) {
+            *sum += calls;
+        }
         for (sum, calls) in self.joins.iter_mut().zip(other.joins) {
             *sum += calls;
         }
@@ -206,8 +214,8 @@ impl Tally {
     }
 
     /// Holds every entry that takes the input against `second`, the questions to the
-    /// record that it is or gives, and the joins of the orders that it has; counts
-    /// one input.
+    /// record that it is or gives, the joins of the orders that it has and some previews
+    /// on them; counts one input.
     pub fn compare(&mut self, input: &Input, record_area: usize, reduced_area: usize) -> Outcome {
         let expected = input.second(record_area, reduced_area);
         let lent = (record_area, reduced_area);
@@ -271,8 +279,11 @@ impl Tally {
         } else if expected.number == 0 {
             wrong = wrong.or_else(|| self.questions(&expected.record).1);
         }
-        if let Some((count, list)) = input.listed(&expected) {
+        if let Some((count, list, hours)) = input.listed(&expected) {
             wrong = wrong.or_else(|| self.joins(count, &list).1);
+            for (list, order) in some_orders(count, &list) {
+                wrong = wrong.or_else(|| self.preview(count, list, &hours, order).1);
+            }
         }
         let wrong = wrong.map(|wrong| {
             let areas = format!("record area {record_area}, reduced area {reduced_area}");
@@ -303,6 +314,21 @@ impl Tally {
     pub fn compare_joins(&mut self, count: u16, list: &[u16]) {
         let held = self.joins(count, list);
         self.settle(("joins", count, list), held);
+    }
+
+    /// Holds the preview of one more order on a pair list against `second`; counts one
+    /// input. The number of its answer.
+    pub fn compare_preview(
+        &mut self,
+        count: u16,
+        list: &[u16],
+        hours: &[u16],
+        order: (u16, u16),
+    ) -> u64 {
+        let held = self.preview(count, list, hours, order);
+        let number = held.0;
+        self.settle(("preview", count, list, hours, order), held);
+        number
     }
 
     /// The same as `compare` with areas that are long enough; an accepted sheet's or
@@ -467,6 +493,43 @@ impl Tally {
             ))
         };
         pairs.iter().find_map(&mut wrong)
+    }
+
+    /// One call for the preview of an order on fresh copies of a pair list and its hours,
+    /// and one for the analysis of the list with the order at its end: the number that
+    /// `second` gives, and what is wrong with either, if anything.
+    fn preview(
+        &mut self,
+        count: u16,
+        list: &[u16],
+        hours: &[u16],
+        order: (u16, u16),
+    ) -> (u64, Option<String>) {
+        let Preview { number, places } = second::preview(count, list, hours, order);
+        self.previews[number as usize] += 1;
+        let expected = packed(number, places);
+        let (copy, beside) = (Lent::new(list), Lent::beside(hours));
+        let given = ffi::preview(count, &copy, &beside, order);
+        let (list_stays, hours_stay) = (copy.is(list), beside.is(hours));
+        let longer = Lent::new(&[list, &[order.0, order.1]].concat());
+        let analysed = ffi::answer_to_pairs(count, &longer, &beside);
+        if given == expected && analysed == expected && list_stays && hours_stay {
+            return (number, None);
+        }
+        let mut report = format!("preview of {order:?}: count {count}, list {list:?}, ");
+        let _ = writeln!(report, "hours {hours:?}, answers in hexadecimal");
+        let _ = writeln!(report, "  second: {expected:x}");
+        let _ = writeln!(report, "  ordersheet_preview: {given:x}");
+        let _ = writeln!(
+            report,
+            "  ordersheet_test_pairs, the order at the end: {analysed:x}"
+        );
+        for (stays, said) in [(list_stays, "orders"), (hours_stay, "hours")] {
+            if !stays {
+                let _ = writeln!(report, "    the {said} were changed");
+            }
+        }
+        (number, Some(report))
     }
 
     /// One call for the joins of a fresh copy of the pair list: the number that

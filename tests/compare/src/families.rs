@@ -4,6 +4,7 @@ use crate::check::{Input, Tally, ENOUGH};
 use crate::gangs;
 use crate::generate::*;
 use crate::joins;
+use crate::preview;
 use crate::reason;
 use crate::runs;
 use second::{cases, LONGEST_RECORD, LONGEST_SHEET, MOST_ORDERS};
@@ -38,7 +39,7 @@ impl Task {
 
 /// All tasks, those of the heavy families first.
 pub fn tasks() -> Vec<Task> {
-    let families: [(&'static str, usize, Body); 55] = [
+    let families: [(&'static str, usize, Body); 64] = [
         (
             "sheets about the longest",
             LONG_COUNTS.len(),
@@ -104,6 +105,39 @@ pub fn tasks() -> Vec<Task> {
         ),
         ("reasons of no jobs", reason::COUNT_PARTS, reason::no_jobs),
         ("reasons on no record", 10, reason::no_records),
+        (
+            "previews on lists about full",
+            preview::WRONG_PARTS,
+            preview::full_lists,
+        ),
+        ("previews near trees", 24, preview::near_trees),
+        (
+            "previews at the last jobs",
+            preview::EDGE_PARTS,
+            preview::edges,
+        ),
+        (
+            "previews on every relation",
+            preview::RELATION_PARTS,
+            preview::every_relation,
+        ),
+        (
+            "previews on orders of 5 and 6 jobs",
+            preview::ORDER_PARTS,
+            preview::every_order,
+        ),
+        (
+            "previews on lists of 0 to 6 numbers",
+            preview::SHORT_PARTS,
+            preview::short_lists,
+        ),
+        ("previews with two faults", 10, preview::two_faults),
+        (
+            "previews on odd lists",
+            preview::ODD_PARTS,
+            preview::odd_lists,
+        ),
+        ("previews and hours", preview::HOURS_PARTS, preview::hours),
         ("questions on no record", 10, runs::no_records),
         ("joins of repeated orders", 10, joins::repeated_orders),
         ("joins of 4,096 orders", 10, joins::many_orders),

@@ -1,7 +1,7 @@
 //! The C entries of the libraries under test, and nothing else that is unsafe but
 //! what `lent` does and the mock's own bodies.
 
-use crate::check::Guarded;
+use crate::check::{Guarded, ENOUGH};
 use crate::lent::Lent;
 use second::packed;
 
@@ -69,6 +69,16 @@ extern "C" {
     fn ordersheet_gangs(record: *const u8, record_len: usize) -> GangPlan;
 
     fn ordersheet_reason(record: *const u8, record_len: usize, first: u16, second: u16) -> Reason;
+
+    fn ordersheet_preview(
+        count: u16,
+        list: *const u16,
+        list_len: usize,
+        hours: *const u16,
+        hours_len: usize,
+        first: u16,
+        second: u16,
+    ) -> u64;
 
     fn bench_joins(arcs: *const u16, numbers: usize, n: u16, again: u16) -> usize;
 }
@@ -242,6 +252,43 @@ pub fn gangs(record: &Lent<u8>) -> GangPlan {
 
 pub fn reason(record: &Lent<u8>, first: u16, second: u16) -> Reason {
     unsafe { ordersheet_reason(record.pointer(), record.length(), first, second) }
+}
+
+pub fn preview(count: u16, list: &Lent<u16>, hours: &Lent<u16>, order: (u16, u16)) -> u64 {
+    unsafe {
+        ordersheet_preview(
+            count,
+            list.pointer(),
+            list.length(),
+            hours.pointer(),
+            hours.length(),
+            order.0,
+            order.1,
+        )
+    }
+}
+
+/// The answer alone of the analysis of a pair list, with areas long enough.
+pub fn answer_to_pairs(count: u16, list: &Lent<u16>, hours: &Lent<u16>) -> u64 {
+    let (mut record, mut reduced) = ([0; ENOUGH.0], [0; ENOUGH.1]);
+    let (mut forward, mut reverse) = ([0; 128], [0; 128]);
+    unsafe {
+        ordersheet_test_pairs(
+            count,
+            list.pointer(),
+            list.length(),
+            hours.pointer(),
+            hours.length(),
+            record.as_mut_ptr(),
+            record.len(),
+            reduced.as_mut_ptr(),
+            reduced.len(),
+            forward.as_mut_ptr(),
+            forward.len(),
+            reverse.as_mut_ptr(),
+            reverse.len(),
+        )
+    }
 }
 
 pub fn joins(count: u16, list: &Lent<u16>) -> usize {

@@ -10,6 +10,7 @@ pub mod joins;
 pub mod lent;
 #[cfg(feature = "mock")]
 pub mod mock;
+pub mod preview;
 pub mod reason;
 pub mod runs;
 

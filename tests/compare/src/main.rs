@@ -6,13 +6,22 @@
 //! the words. The last line is `N passed, M failed`, N and M counting inputs: a
 //! sheet or pair list with two area lengths, a record with one, a record for its
 //! questions alone, for the longest run, the gangs and some reasons, a record with pairs
-//! of job numbers for their reasons alone, or a pair list for its joins alone. Answers of
-//! the last are numbered 0 without a circle, 7 with one, 3 and 5 where nothing is
-//! counted; those of pairs are numbered as the record is read, and the pairs are counted
-//! on a line of their own.
+//! of job numbers for their reasons alone, a pair list with one more order for its preview
+//! alone, or a pair list for its joins alone. Answers of the last are numbered 0 without a
+//! circle, 7 with one, 3 and 5 where nothing is counted; those of pairs are numbered as the
+//! record is read. Pairs and all previews are counted on lines of their own.
 
 use std::process::ExitCode;
 use std::time::Instant;
+
+/// How many answers there are of each number that there is.
+fn by_number(answers: &[u64]) -> String {
+    let each = (0..answers.len()).filter(|&number| answers[number] > 0);
+    let each: Vec<String> = each
+        .map(|number| format!("{number}: {}", answers[number]))
+        .collect();
+    each.join(", ")
+}
 
 fn main() -> ExitCode {
     let words: Vec<String> = std::env::args().skip(1).collect();
@@ -25,11 +34,7 @@ fn main() -> ExitCode {
     println!("{:<36}{:>8}   answers by number", "family", "inputs");
     for (family, answers) in &tally.families {
         let total: u64 = answers.iter().sum();
-        let each = (0..answers.len()).filter(|&number| answers[number] > 0);
-        let each: Vec<String> = each
-            .map(|number| format!("{number}: {}", answers[number]))
-            .collect();
-        println!("{family:<36}{total:>8}   {}", each.join(", "));
+        println!("{family:<36}{total:>8}   {}", by_number(answers));
     }
     let [accepted, refused] = tally.questions;
     println!("questions: {accepted} of records, {refused} of bytes that are none");
@@ -38,6 +43,7 @@ fn main() -> ExitCode {
         "reasons: {same} same job, {before} before, {after} after, {free} free, \
          {no_job} of no job, {no_record} in bytes that are no record"
     );
+    println!("previews: {}", by_number(&tally.previews));
     let [without, with, refused] = tally.joins;
     println!("joins: {without} without a circle, {with} with one, {refused} refused");
     println!(

@@ -2,6 +2,7 @@
 //! other than 0 makes them wrong in one way, which the harness has to find.
 
 mod gangs;
+mod preview;
 mod reason;
 
 use crate::ffi;
@@ -17,7 +18,7 @@ use std::sync::atomic::{AtomicUsize, Ordering};
 
 pub static FAULT: AtomicUsize = AtomicUsize::new(0);
 
-pub const FAULTS: [&str; 266] = [
+pub const FAULTS: [&str; 365] = [
     "none",
     "a byte after the record is set",
     "a byte after the reduced orders is set",
@@ -257,6 +258,105 @@ pub const FAULTS: [&str; 266] = [
     "a reason is given where a job does not stand",
     "a reason is given where a group is in one of its kind",
     "a reason is given where side children do not ascend",
+    "the third place of a preview is packed eight bits too high",
+    "the order of a preview is turned",
+    "the first number of the order has 8 bits",
+    "the second number of the order has 8 bits",
+    "the numbers of the order have 15 bits",
+    "a number of the order above 127 is taken for 127",
+    "the order is put ahead of the list",
+    "the order is left out",
+    "an order outside is left out",
+    "the order's first number is not tested",
+    "the order's second number is not tested",
+    "the count is let pass in the order",
+    "an order from a job to itself is left out",
+    "an order that is there already is left out",
+    "the order takes the place of the last one",
+    "an odd list is previewed without its last number",
+    "an odd list is closed by the order's first number",
+    "a full list has room for the order",
+    "a list of 4,097 orders has room for the order",
+    "the length of a previewed list has 16 bits",
+    "a list of 4,095 orders is full",
+    "128 jobs are too many for a preview",
+    "129 jobs are not too many for a preview",
+    "no jobs are enough for a preview",
+    "a list with no orders has no preview",
+    "4 is told with the list's length in a preview",
+    "2 is told with the list's length in a preview",
+    "3 is tested ahead of 2 in a preview",
+    "4 is tested ahead of 2 in a preview",
+    "4 is tested ahead of 3 in a preview",
+    "12 is tested ahead of 3 in a preview",
+    "12 is tested ahead of 4 in a preview",
+    "13 is tested ahead of 4 in a preview",
+    "13 is tested ahead of 12 in a preview",
+    "6 is tested ahead of 5 in a preview",
+    "5 of the order is tested ahead of 12",
+    "5 of the order is tested ahead of 13",
+    "hours are not heeded in a preview",
+    "hours of 4,095 are too many in a preview",
+    "hours of 4,096 are let pass in a preview",
+    "the place of 13 is the last such job in a preview",
+    "13 has no place in a preview",
+    "a longer hours list is let pass in a preview",
+    "a shorter hours list is let pass in a preview",
+    "the length of previewed hours has 8 bits",
+    "the length of previewed hours has 16 bits",
+    "5 of the order is told ahead of 5 of the list",
+    "6 of the order is told ahead of 6 of the list",
+    "6 of the order is told ahead of 5 of the list",
+    "an order from a job to itself is told as outside",
+    "an order from a job to itself is told as a circle",
+    "a list that is refused is told without the order",
+    "6 of the list is told ahead of 5 of the order",
+    "7 of the list is told ahead of 5 of the order",
+    "7 of the list is told ahead of 6 of the order",
+    "8 of the list is told ahead of 6 of the order",
+    "8 of the list is told ahead of 7",
+    "8 of the list is told though the order undoes it",
+    "the N of the list is told",
+    "the circle of the list is told",
+    "the place of the order is one too far",
+    "the place of the order is one too near",
+    "the place of the order is 0",
+    "the place of the order is counted in numbers",
+    "the place of the order has 8 bits",
+    "the place of the order has 11 bits",
+    "the places of the list's orders count from 1 in a preview",
+    "a fault of the list is told at the order",
+    "a circle is told at the order's first job",
+    "a circle is told at the order's second job",
+    "a circle is told at its greatest job",
+    "a circle without job 0 is missed in a preview",
+    "c and d of the N are exchanged in a preview",
+    "an N is told without its places in a preview",
+    "an N or a circle is not sought in a preview",
+    "what is before the order's first job is not put before its second",
+    "what is after the order's second job is not put after its first",
+    "the order is not followed on",
+    "9 is given for an accepted preview",
+    "10 is given for an accepted preview",
+    "the record area of a preview has 463 bytes",
+    "the record area of a preview has 272 bytes",
+    "a preview has room for 4,095 reduced orders",
+    "a preview has room for 2,048 reduced orders",
+    "an accepted preview has no places",
+    "an accepted preview has the places of the list alone",
+    "an accepted preview has the record bytes of the list alone",
+    "an accepted preview has the reduced orders of the list alone",
+    "an accepted preview has the groups of the list alone",
+    "an accepted preview has one more reduced order than the list alone",
+    "an accepted preview has all written orders",
+    "an accepted preview has all different orders",
+    "the record of a preview has no hours",
+    "the last bits of a preview's record are not counted",
+    "the record of a preview is counted in bits",
+    "leaves are counted among the groups of a preview",
+    "the fourth place of a preview is the job count",
+    "the list of a preview is written to",
+    "the hours of a preview are written to",
     "repeats of an order are joined again",
     "a repeat is joined again where another order stands between",
     "an order that follows from others is not joined",
@@ -1287,6 +1387,27 @@ pub unsafe extern "C" fn ordersheet_reason(
         *(record as *mut u8).add(record_len - 1) ^= 1;
     }
     reason::wrong_reason(from_raw_parts(record, record_len), first, second)
+}
+
+#[no_mangle]
+pub unsafe extern "C" fn ordersheet_preview(
+    count: u16,
+    list: *const u16,
+    list_len: usize,
+    hours: *const u16,
+    hours_len: usize,
+    first: u16,
+    second: u16,
+) -> u64 {
+    if list_len > 0 && fault("the list of a preview is written to") {
+        *(list as *mut u16).add(list_len - 1) ^= 1;
+    }
+    if hours_len > 0 && fault("the hours of a preview are written to") {
+        *(hours as *mut u16).add(hours_len - 1) ^= 1;
+    }
+    let list = from_raw_parts(list, list_len);
+    let hours = from_raw_parts(hours, hours_len);
+    preview::wrong_preview(count, list, hours, (first, second))
 }
 
 #[no_mangle]

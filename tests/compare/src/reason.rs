@@ -25,7 +25,7 @@ fn stated(bytes: &[u8]) -> usize {
 
 /// A number that is no job of so many: the first of these, with the last eight bits of
 /// one that is, the last of all, any.
-fn no_job(rng: &mut Rng, count: usize) -> usize {
+pub fn no_job(rng: &mut Rng, count: usize) -> usize {
     let job = rng.below(count);
     let any = rng.from(count, 65_535);
     let edges = [count, count + 1, 128, 255, 256, 65_535];

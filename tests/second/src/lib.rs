@@ -1,14 +1,15 @@
 //! The analysis of order sheets and pair lists, the record reader, the longest
-//! run, the gangs, the reason between two jobs and the count of joins, written from
-//! document 01 and requests A.1 to A.6 alone by the plainest search their words
-//! allow; the count with a circle, of which they say nothing, by the definition that
-//! the product has.
+//! run, the gangs, the reason between two jobs, the preview of one more order and the
+//! count of joins, written from document 01 and requests A.1 to A.7 alone by the
+//! plainest search their words allow; the count with a circle, of which they say
+//! nothing, by the definition that the product has.
 
 pub mod cases;
 pub mod gangs;
 pub mod joins;
 pub mod longest;
 pub mod order;
+pub mod preview;
 pub mod reason;
 pub mod record;
 pub mod sheet;
@@ -271,6 +272,29 @@ fn number_of(read: Option<&(usize, Tree)>) -> u64 {
     match read {
         Some(_) => 0,
         None => 11,
+    }
+}
+
+/// An answer alone, that of an analysis which writes nothing.
+#[derive(Clone, Copy, Debug, PartialEq, Eq)]
+pub struct Preview {
+    pub number: u64,
+    pub places: [u64; 4],
+}
+
+/// The answer that a pair list and its hours would get with this order at the list's
+/// end and areas long enough.
+pub fn preview(count: u16, list: &[u16], hours: &[u16], order: (u16, u16)) -> Preview {
+    let asked = preview::Asked {
+        count: count as usize,
+        list,
+        hours,
+        order: (order.0 as usize, order.1 as usize),
+    };
+    let (number, places) = asked.answer();
+    Preview {
+        number,
+        places: places.map(|place| place as u64),
     }
 }
 

@@ -1,10 +1,11 @@
-//! What document 01 and requests A.1 to A.6 say of single sheets, lists and
+//! What document 01 and requests A.1 to A.7 say of single sheets, lists and
 //! records.
 
-use second::cases::{cases, sheet, widest, zeros};
+use second::cases::{cases, sheet, widest, zeros, Input};
 use second::{
-    analyse_pairs, analyse_sheet, gangs, joins, longest_run, packed, printed, read_record, reason,
-    reason_of, GangPlan, LongestRun, Outcome, Reason, LONGEST_RECORD, LONGEST_SHEET, MOST_ORDERS,
+    analyse_pairs, analyse_sheet, gangs, joins, longest_run, packed, preview, printed, read_record,
+    reason, reason_of, GangPlan, LongestRun, Outcome, Reason, LONGEST_RECORD, LONGEST_SHEET,
+    MOST_ORDERS,
 };
 
 const ENOUGH: (usize, usize) = (464, 8192);
@@ -945,6 +946,249 @@ fn no_run_and_no_gangs_of_what_is_no_record() {
         assert_eq!(longest_run(&bytes), no_run, "{bytes:?}");
         assert_eq!(gangs(&bytes), no_gangs, "{bytes:?}");
     }
+}
+
+/// Holds the preview of an order to what is said, and to the analysis of the copy.
+fn previewed(
+    (count, list, hours): (u16, &[u16], &[u16]),
+    order: (u16, u16),
+    number: u64,
+    places: [u64; 4],
+) {
+    let given = preview(count, list, hours, order);
+    let begins = &list[..list.len().min(20)];
+    let lengths = (list.len(), hours.len());
+    let shown = format!("{order:?} of {count} jobs on {begins:?}, lengths {lengths:?}");
+    assert_eq!((given.number, given.places), (number, places), "{shown}");
+    let copy = listed(count, &[list, &[order.0, order.1]].concat(), hours);
+    assert_eq!((copy.number, copy.places), (number, places), "{shown}");
+}
+
+/// Places with one named.
+fn at(place: u64) -> [u64; 4] {
+    [place, 0, 0, 0]
+}
+
+#[test]
+fn previews() {
+    for (count, list, order, number, places) in [
+        // The least lists.
+        (2, &[][..], (0, 1), 0, [7, 1, 1, 0]),
+        (2, &[], (1, 0), 0, [7, 1, 1, 0]),
+        (128, &[], (127, 0), 0, [324, 1, 2, 0]),
+        // Outside, by the first, the second and both.
+        (1, &[], (0, 1), 5, at(0)),
+        (1, &[], (1, 0), 5, at(0)),
+        (1, &[], (1, 1), 5, at(0)),
+        (2, &[0, 1, 0, 1], (0, 2), 5, at(2)),
+        (2, &[0, 1, 0, 1], (u16::MAX, 0), 5, at(2)),
+        (128, &[0, 1], (0, 128), 5, at(1)),
+        (128, &[0, 1], (256, 1), 5, at(1)),
+        // A job before itself.
+        (1, &[], (0, 0), 6, at(0)),
+        (3, &[0, 1, 1, 2], (2, 2), 6, at(2)),
+        (128, &[0, 1], (127, 127), 6, at(1)),
+        // Of orders with the same fault the list's own is told.
+        (2, &[0, 2], (0, 2), 5, at(0)),
+        (2, &[0, 1, 1, 1], (0, 0), 6, at(1)),
+        // The order's fault is tested ahead of the list's, then after it.
+        (3, &[0, 1, 1, 1], (0, 3), 5, at(2)),
+        (3, &[0, 1, 0, 3], (1, 1), 5, at(1)),
+        (3, &[0, 1, 1, 0], (2, 2), 6, at(2)),
+        (3, &[0, 1, 1, 0], (0, 3), 5, at(2)),
+        (3, &[0, 1, 1, 1], (1, 0), 6, at(1)),
+        (4, &[0, 2, 1, 2, 1, 3], (3, 3), 6, at(3)),
+        (4, &[0, 2, 1, 2, 1, 3], (4, 3), 5, at(3)),
+        (4, &[0, 2, 1, 2, 1, 3], (3, 1), 7, at(1)),
+        // A circle of two, of three, one that the order does not reach into.
+        (2, &[0, 1], (1, 0), 7, at(0)),
+        (3, &[1, 2], (2, 1), 7, at(1)),
+        (4, &[2, 3, 3, 1], (1, 2), 7, at(1)),
+        (4, &[2, 3, 3, 2], (0, 1), 7, at(2)),
+        (4, &[2, 3, 3, 2], (1, 0), 7, at(2)),
+        (4, &[0, 1, 1, 2, 2, 3], (3, 0), 7, at(0)),
+        (4, &[0, 1, 1, 2, 2, 3], (3, 1), 7, at(1)),
+        // An N that the order makes, one that it leaves, one that it undoes.
+        (4, &[0, 2, 1, 2], (1, 3), 8, [0, 1, 2, 3]),
+        (4, &[1, 2, 1, 3], (0, 2), 8, [0, 1, 2, 3]),
+        (4, &[0, 2, 1, 3], (1, 2), 8, [0, 1, 2, 3]),
+        (4, &[0, 2, 1, 2, 1, 3], (0, 2), 8, [0, 1, 2, 3]),
+        (4, &[0, 2, 1, 2, 1, 3], (0, 3), 0, [15, 4, 3, 0]),
+        (5, &[0, 2, 1, 2, 1, 3, 0, 4], (4, 3), 8, [1, 0, 2, 4]),
+        (5, &[0, 2, 1, 2, 1, 3, 0, 4, 4, 3], (1, 4), 0, [18, 5, 4, 0]),
+        // An order that is there, one that follows, one that others follow from.
+        (2, &[0, 1], (0, 1), 0, [7, 1, 1, 0]),
+        (3, &[0, 1, 1, 2], (0, 2), 0, [10, 2, 1, 0]),
+        (3, &[0, 1, 0, 2], (1, 2), 0, [10, 2, 1, 0]),
+        (5, &[0, 1, 0, 2, 1, 3, 2, 3], (0, 3), 0, [17, 4, 3, 0]),
+    ] {
+        let hours = vec![7; count as usize];
+        previewed((count, list, &hours), order, number, places);
+    }
+}
+
+/// The last order of each of the papers' cases, on what is ahead of it.
+#[test]
+fn previews_of_the_last_order() {
+    let mut last_orders = 0;
+    for case in cases() {
+        let (count, list, hours) = match case.input {
+            Input::Sheet(bytes) => {
+                let Ok(read) = second::sheet::read(&bytes) else {
+                    continue;
+                };
+                let orders = read.orders.iter();
+                (
+                    read.count as u16,
+                    orders.flat_map(|&(u, v)| [u as u16, v as u16]).collect(),
+                    read.hours.iter().map(|&hours| hours as u16).collect(),
+                )
+            }
+            Input::Pairs { count, list, hours } => (count, list, hours),
+            Input::Record(_) => continue,
+        };
+        let Outcome { number, places, .. } = listed(count, &list, &hours);
+        if let Some((ahead, &[first, second])) = list.split_last_chunk() {
+            previewed((count, ahead, &hours), (first, second), number, places);
+            last_orders += 1;
+        }
+    }
+    assert!(last_orders > 20, "{last_orders}");
+}
+
+/// Orders good, outside, from a job to itself, one that makes a circle and one that makes
+/// an N after 0 2 and 1 2.
+const ORDERS: [(u16, u16); 6] = [(0, 3), (0, 4), (u16::MAX, 0), (1, 1), (2, 0), (1, 3)];
+
+#[test]
+fn previews_on_odd_lists() {
+    for length in [1, 3, 5, 8189, 8191, 8193, 8195, 65_537] {
+        for count in [0, 1, 4, 128, 129, u16::MAX] {
+            for order in ORDERS {
+                for number in [0, 1, u16::MAX] {
+                    let list = vec![number; length];
+                    for hours in [&[][..], &[4096], &[0; 4], &[4096; 4]] {
+                        previewed((count, &list, hours), order, 2, [0; 4]);
+                    }
+                }
+            }
+        }
+    }
+}
+
+/// A list of so many orders, 0 2 and 1 2 in turn.
+fn of_length(orders: usize) -> Vec<u16> {
+    let mut list = [0, 2, 1, 2].repeat(orders.div_ceil(2));
+    list.truncate(2 * orders);
+    list
+}
+
+#[test]
+fn previews_on_full_lists() {
+    let last = MOST_ORDERS as u64 - 1;
+    let hours = [0, 4095, 1, 2];
+    let room = of_length(MOST_ORDERS - 1);
+    for (order, number, places) in [
+        ((0, 2), 0, [15, 2, 3, 0]),
+        ((3, 2), 0, [14, 3, 2, 0]),
+        ((0, 4), 5, at(last)),
+        ((u16::MAX, 0), 5, at(last)),
+        ((1, 1), 6, at(last)),
+        ((2, 0), 7, at(0)),
+        ((2, 1), 7, at(1)),
+        ((1, 3), 8, [0, 1, 2, 3]),
+    ] {
+        previewed((4, &room, &hours), order, number, places);
+    }
+    let mut flawed = room.clone();
+    flawed[8189] = 4;
+    previewed((4, &flawed, &hours), (9, 9), 5, at(last - 1));
+    flawed[8189] = flawed[8188];
+    previewed((4, &flawed, &hours), (0, 4), 5, at(last));
+    previewed((4, &flawed, &hours), (1, 1), 6, at(last - 1));
+
+    for orders in [MOST_ORDERS, MOST_ORDERS + 1, 8192, 32_768, 65_536] {
+        for list in [of_length(orders), vec![9; 2 * orders], vec![0; 2 * orders]] {
+            for order in ORDERS {
+                for hours in [&hours[..], &[], &[0; 5], &[4096; 4]] {
+                    previewed((4, &list, hours), order, 4, [0; 4]);
+                    for count in [0, 129, u16::MAX] {
+                        previewed((count, &list, hours), order, 3, [0; 4]);
+                    }
+                    for count in [1, 128] {
+                        previewed((count, &list, hours), order, 4, [0; 4]);
+                    }
+                }
+            }
+        }
+    }
+}
+
+#[test]
+fn previews_and_hours() {
+    for list in [&[][..], &[0, 2, 1, 2], &[9, 9], &[0, 0]] {
+        for order in ORDERS {
+            for length in [0, 1, 3, 5, 128, 65_540] {
+                for hours in [0, 4095, 4096, u16::MAX] {
+                    previewed((4, list, &vec![hours; length]), order, 12, [0; 4]);
+                }
+            }
+            for job in 0..4 {
+                for above in [4096, 8192, u16::MAX] {
+                    let mut hours = [4095; 4];
+                    hours[job] = above;
+                    let place = at(job as u64);
+                    previewed((4, list, &hours), order, 13, place);
+                    hours[job..].fill(above);
+                    previewed((4, list, &hours), order, 13, place);
+                }
+            }
+            for count in [0, 129, u16::MAX] {
+                for hours in [&[][..], &[4096], &[0; 129]] {
+                    previewed((count, list, hours), order, 3, [0; 4]);
+                }
+            }
+        }
+    }
+    previewed((4, &[0, 2, 1, 2], &[4095; 4]), (0, 3), 8, [1, 0, 2, 3]);
+    previewed((4, &[0, 2, 1, 2], &[4095; 4]), (3, 2), 0, [14, 3, 2, 0]);
+}
+
+/// 128 jobs: the last order of a series, of two wide groups and of the deepest tree, and
+/// orders back.
+#[test]
+fn previews_on_128_jobs() {
+    let hours = [4095; 128];
+    let series: Vec<u16> = (1..128).flat_map(|job| [job - 1, job]).collect();
+    let (ahead, _) = series.split_at(252);
+    previewed((128, ahead, &hours), (126, 127), 0, [322, 127, 1, 0]);
+    previewed((128, ahead, &hours), (126, 126), 6, at(126));
+    previewed((128, ahead, &hours), (126, 128), 5, at(126));
+    previewed((128, ahead, &hours), (126, 0), 7, at(0));
+    previewed((128, ahead, &hours), (126, 125), 7, at(125));
+    previewed((128, ahead, &hours), (127, 126), 0, [325, 127, 3, 0]);
+    let aside = [&series[..250], &[126, 60]].concat();
+    previewed((128, &aside, &hours), (50, 127), 8, [126, 0, 60, 127]);
+    previewed((128, &aside, &hours), (60, 127), 0, [327, 127, 5, 0]);
+
+    let wide = (0..64).flat_map(|u| (64..128).flat_map(move |v| [u, v]));
+    let wide: Vec<u16> = wide.collect();
+    let (ahead, _) = wide.split_at(8190);
+    previewed((128, ahead, &hours), (63, 127), 0, [325, 4096, 3, 0]);
+    previewed((128, ahead, &hours), (63, 126), 8, [63, 0, 64, 127]);
+    previewed((128, ahead, &hours), (127, 0), 7, at(0));
+    previewed((128, ahead, &hours), (127, 62), 7, at(62));
+    previewed((128, &wide, &hours), (63, 127), 4, [0; 4]);
+
+    let nested = (0..127).step_by(2);
+    let nested = nested.flat_map(|u| (u + 1..128).flat_map(move |v| [u, v]));
+    let nested: Vec<u16> = nested.collect();
+    let (ahead, _) = nested.split_at(8190);
+    previewed((128, ahead, &hours), (126, 127), 0, [464, 127, 127, 0]);
+    previewed((128, ahead, &hours), (127, 126), 0, [464, 127, 127, 0]);
+    previewed((128, ahead, &hours), (0, 126), 0, [463, 127, 126, 0]);
+    previewed((128, ahead, &hours), (127, 124), 7, at(124));
+    previewed((128, &nested, &hours), (126, 127), 4, [0; 4]);
 }
 
 #[test]

@@ -4,8 +4,8 @@ use second::joins::{by_passes, different, of_list, Joins};
 use second::order::{before, first_n, free, reduced, Before};
 use second::tree::{of_order, Tree};
 use second::{
-    analyse_pairs, gangs, joins, longest_run, read_record, reason, reason_of, record, sheet,
-    GangPlan, Reason,
+    analyse_pairs, gangs, joins, longest_run, preview, read_record, reason, reason_of, record,
+    sheet, GangPlan, Reason,
 };
 use std::collections::{BTreeMap, HashSet};
 
@@ -217,6 +217,26 @@ fn followed_on(count: usize, orders: &[(usize, usize)]) -> Before {
     }
 }
 
+/// Every N, in the definition's words.
+fn every_n(table: &Before) -> Vec<[u64; 4]> {
+    let count = table.len();
+    let mut ns = Vec::new();
+    for a in 0..count {
+        for b in 0..count {
+            for c in 0..count {
+                for d in 0..count {
+                    let orders = table[a][c] && table[b][c] && table[b][d];
+                    let frees = [(a, b), (c, d), (a, d)];
+                    if orders && frees.iter().all(|&(u, v)| free(table, u, v)) {
+                        ns.push([a as u64, b as u64, c as u64, d as u64]);
+                    }
+                }
+            }
+        }
+    }
+    ns
+}
+
 #[test]
 fn every_relation_on_up_to_four_jobs() {
     for count in 1..=4usize {
@@ -239,20 +259,7 @@ fn every_relation_on_up_to_four_jobs() {
             assert_eq!(before(count, &orders), table);
             let selfish = orders.iter().position(|&(u, v)| u == v);
             let circle = (0..count).find(|&job| table[job][job]);
-            let mut ns = Vec::new();
-            for a in 0..count {
-                for b in 0..count {
-                    for c in 0..count {
-                        for d in 0..count {
-                            let orders = table[a][c] && table[b][c] && table[b][d];
-                            let frees = [(a, b), (c, d), (a, d)];
-                            if orders && frees.iter().all(|&(u, v)| free(&table, u, v)) {
-                                ns.push([a as u64, b as u64, c as u64, d as u64]);
-                            }
-                        }
-                    }
-                }
-            }
+            let ns = every_n(&table);
             if let Some(at) = selfish {
                 assert_eq!((outcome.number, outcome.places), (6, [at as u64, 0, 0, 0]));
             } else if let Some(job) = circle {
@@ -850,6 +857,158 @@ fn joins_of_some_relations_on_up_to_20_jobs() {
         circles += check_joins(&mut numbers, count, &orders) as u32;
     }
     assert!((1000..5000).contains(&circles), "{circles}");
+}
+
+/// What is told of a list of orders on 1 to 128 jobs with hours for each, unless it is
+/// accepted: refusals 4 to 8, each in its sentence's words.
+fn told_of(count: usize, orders: &[(usize, usize)]) -> Option<(u64, [u64; 4])> {
+    let at = |place: usize| [place as u64, 0, 0, 0];
+    if orders.len() > 4096 {
+        return Some((4, at(0)));
+    }
+    let off = |job: usize| job >= count;
+    if let Some(place) = orders.iter().position(|&(u, v)| off(u) || off(v)) {
+        return Some((5, at(place)));
+    }
+    if let Some(place) = orders.iter().position(|&(u, v)| u == v) {
+        return Some((6, at(place)));
+    }
+    let table = followed_on(count, orders);
+    if let Some(job) = (0..count).find(|&job| table[job][job]) {
+        return Some((7, at(job)));
+    }
+    every_n(&table).into_iter().min().map(|first| (8, first))
+}
+
+/// The number that each answer to a preview has, and how often.
+type Answers = BTreeMap<u64, u32>;
+
+/// Holds the previews of every two of these numbers on a list to the analysis of the
+/// copy with the order at its end, and that on small lists to the refusals' words.
+fn check_previews(answers: &mut Answers, count: usize, list: &[u16], numbers: &[u16]) {
+    let hours: Vec<u16> = (0..count).map(|job| HOURS[job % 5] as u16).collect();
+    for &first in numbers {
+        for &second in numbers {
+            let given = preview(count as u16, list, &hours, (first, second));
+            let copy = [list, &[first, second]].concat();
+            let whole = analyse_pairs(count as u16, &copy, &hours, 464, 8192);
+            assert_eq!(
+                (given.number, given.places),
+                (whole.number, whole.places),
+                "{count} {list:?} {first} {second}"
+            );
+            *answers.entry(given.number).or_default() += 1;
+            if count > 6 || list.len() % 2 == 1 {
+                continue;
+            }
+            let pair = |order: &[u16]| (order[0] as usize, order[1] as usize);
+            let orders: Vec<(usize, usize)> = copy.chunks_exact(2).map(pair).collect();
+            let told = match count {
+                0 => Some((3, [0; 4])),
+                _ => told_of(count, &orders),
+            };
+            let refused = (given.number != 0).then_some((given.number, given.places));
+            assert_eq!(refused, told, "{count} {list:?} {first} {second}");
+        }
+    }
+}
+
+/// The numbers below the count, the count and the last number of 16 bits.
+fn numbers_to(count: usize) -> Vec<u16> {
+    let mut numbers: Vec<u16> = (0..=count as u16).collect();
+    numbers.push(u16::MAX);
+    numbers
+}
+
+/// A list of these orders of all pairs of so many jobs, by its bits.
+fn list_of(relation: usize, pairs: &[[u16; 2]]) -> Vec<u16> {
+    let chosen = (0..pairs.len()).filter(|i| relation >> i & 1 == 1);
+    chosen.flat_map(|i| pairs[i]).collect()
+}
+
+fn pairs_of(count: usize, with_itself: bool) -> Vec<[u16; 2]> {
+    let jobs = 0..count as u16;
+    let pairs = jobs.clone().flat_map(|u| jobs.clone().map(move |v| [u, v]));
+    pairs
+        .filter(|pair| with_itself || pair[0] != pair[1])
+        .collect()
+}
+
+/// Every relation on up to 3 jobs, the same as an odd list, and on 4 jobs every one
+/// without an order from a job to itself.
+#[test]
+fn previews_on_every_relation_on_up_to_four_jobs() {
+    let mut answers = Answers::new();
+    for count in 0..=4 {
+        let pairs = pairs_of(count, count < 4);
+        for relation in 0..1 << pairs.len() {
+            let list = list_of(relation, &pairs);
+            check_previews(&mut answers, count, &list, &numbers_to(count));
+            if count < 4 {
+                let odd = [&list[..], &[0]].concat();
+                check_previews(&mut answers, count, &odd, &[0, 1, count as u16]);
+            }
+        }
+    }
+    let numbers: Vec<u64> = answers.into_keys().collect();
+    assert_eq!(numbers, [0, 2, 3, 5, 6, 7, 8]);
+}
+
+/// Every list of up to 2 orders on the jobs and one number that is none.
+#[test]
+fn previews_on_every_list_of_up_to_two_orders() {
+    let mut answers = Answers::new();
+    for count in 0..=4 {
+        let pairs = pairs_of(count + 1, true);
+        let numbers = numbers_to(count);
+        check_previews(&mut answers, count, &[], &numbers);
+        for one in &pairs {
+            check_previews(&mut answers, count, one, &numbers);
+            for other in &pairs {
+                check_previews(&mut answers, count, &[*one, *other].concat(), &numbers);
+            }
+        }
+    }
+    // Two of its own and one more are the least that can have an N.
+    let numbers: Vec<u64> = answers.into_keys().collect();
+    assert_eq!(numbers, [0, 3, 5, 6, 7, 8]);
+}
+
+/// Orders along a ranking, mostly those of a tree with some left out or put in.
+#[test]
+fn previews_on_some_lists_of_up_to_20_jobs() {
+    let mut numbers = Numbers(7);
+    let mut answers = Answers::new();
+    for round in 0..3000 {
+        let count = 5 + round % 16;
+        let mut rank = jobs(count);
+        for i in 1..count {
+            rank.swap(i, numbers.below(i + 1));
+        }
+        let tree = some_tree(&mut numbers, &rank, round % 2 == 1);
+        let mut orders = match round % 4 {
+            3 => Vec::new(),
+            _ => reduced(&tree.meaning(count)),
+        };
+        for _ in 0..numbers.below([2, 3, count][round % 3]) {
+            let later = 1 + numbers.below(count - 1);
+            let order = (rank[numbers.below(later)], rank[later]);
+            let at = numbers.below(orders.len() + 1);
+            orders.insert(at, order);
+        }
+        if round % 4 < 2 && !orders.is_empty() {
+            orders.remove(numbers.below(orders.len()));
+        }
+        let list: Vec<u16> = orders
+            .iter()
+            .flat_map(|&(u, v)| [u as u16, v as u16])
+            .collect();
+        let some: Vec<u16> = (0..5).map(|_| numbers.below(count) as u16).collect();
+        check_previews(&mut answers, count, &list, &some);
+    }
+    for number in [0, 6, 7, 8] {
+        assert!(answers[&number] > 5000, "{answers:?}");
+    }
 }
 
 /// Whether the whole text has the line form.

@@ -1,8 +1,8 @@
 -- `order::take_apart` meets its contract: the record decides between 8 and the rest, and the rooms between 9, 10 and acceptance.
 use borrow.Author.Needs.{needs}
 use borrow.Author.Tests.{not-false}
-use Prim.Native.Nat.{ℕ, _^_, _≤_}
-use mathlib.Core.Path.{_≡_, sym, ap, subst, _∙_}
+use Prim.Native.Nat.{ℕ, _≤_}
+use mathlib.Core.Path.{_≡_}
 use mathlib.Core.List.{List}
 use mathlib.Core.Option.{some}
 use native.Mathlib.Omega.{arith}
@@ -13,16 +13,13 @@ use Rattle.poset.specs.Decompose.{treeOf}
 use Rattle.poset.proofs.Laws.{not-true}
 use Rattle.relation.specs.Table.{holds, Inside}
 use Rattle.relation.proofs.Chain.{reduced-inside}
-use Rattle.record.specs.Bits.{AllBelow}
-use Rattle.record.specs.Layout.{hoursBits}
-use Rattle.record.proofs.Entries.{padded-below}
 use Rattle.writer.specs.Written.{written}
 use Rattle.writer.specs.declared.writing.Written.{Written}
 use Rattle.writer.proofs.Spelling.{written-told, bytes-few, bytes-size}
 use Rattle.analysis.specs.Result.{rooms}
 use Rattle.analysis.proofs.Crossing.{gives-told, gives-crossed}
 use Rattle.analysis.proofs.Taking.{count-few, gives-9, gives-10, gives-0}
-use Rattle.analysis.proofs.Times.{written-padded}
+use Rattle.analysis.proofs.Times.{all-below, written-all}
 use Rattle.analysis.proofs.order.take_apart.Statement.{statement}
 use Rattle.analysis.proofs.order.take_apart.Tie as tie
 
@@ -63,7 +60,7 @@ module _ (c : tie.After-struct-known) where
 
   -- what is written is the record of the hours
   wrote-is : wrote ≡ written n hours (treeOf n order)
-  wrote-is = c .before .write-record .ensures ∙ ap (λ (h : List ℕ). written n h (treeOf n order)) padded-is ∙ written-padded n hours (treeOf n order)
+  wrote-is = written-all hours padded-is n (treeOf n order) (c .before .write-record .ensures)
 
 -- a tree means the order
 module _ (c : tie.Else1) where
@@ -105,7 +102,7 @@ write-record-requires c κs =
           s .pre .1 .1 .0,
           (
             c .before .before .before .transposed .ensures,
-            subst (AllBelow (2 ^ hoursBits)) (sym (c .before .before .padded .ensures)) (padded-below _ (s .pre .1 .1 .1 .1)),
+            all-below _ (c .before .before .padded .ensures) (s .pre .1 .1 .1 .1),
           ),
         ),
       ),

@@ -1,27 +1,30 @@
 -- `relation::arcs::table_of` meets its contract.
-use Prim.Native.Nat.{_-_, _*_, _/_}
+use Prim.Native.Nat.{_+_, _-_, _*_, _/_}
+use mathlib.Core.Path.{_≡_, subst}
 use native.Mathlib.Omega.{arith}
-use mathlib.Core.Path.{refl}
 use lib.ListN.{length}
-use Rattle.relation.proofs.Flat.{Built, built-none, built-next, built-end}
+use Rattle.relation.proofs.Flat.{Built, built-none, built-next, built-last, built-end}
 use borrow.Author.Needs.{needs}
 use Rattle.relation.proofs.arcs.table_of.Statement.{statement}
 use Rattle.relation.proofs.arcs.table_of.Tie as tie
 
 abbrev Inv-loop : tie.InvT-loop
-Inv-loop arcs t₀ quarter i₀ i-end t i = Built arcs quarter t i
+Inv-loop arcs t₀ quarter last i₀ t i = Built arcs quarter t i
 
 abbrev μ-loop : tie.MeasureT-loop
-μ-loop arcs t₀ quarter i₀ i-end t i = length arcs / 2 - 3 * quarter - i
+μ-loop arcs t₀ quarter last i₀ t i = last - i
 
-mul-i-end : tie.Need-mul-i-end Inv-loop μ-loop
-mul-i-end c = omega arith
+add-quarter : tie.Need-add-quarter Inv-loop μ-loop
+add-quarter c = omega arith
 
-sub-i-end : tie.Need-sub-i-end Inv-loop μ-loop
-sub-i-end c = omega arith
+mul-last : tie.Need-mul-last Inv-loop μ-loop
+mul-last c = omega arith
+
+sub-last : tie.Need-sub-last Inv-loop μ-loop
+sub-last c = omega arith
 
 loop-holds : tie.Need-loop-holds Inv-loop μ-loop
-loop-holds c = built-none (c .before .args .arcs .now) _
+loop-holds c = built-none (c .before .args .arcs .now) _ (omega arith)
 
 put-requires : tie.Need-put-requires Inv-loop μ-loop
 put-requires c κs = (c .before .before .before .before .pre, (omega arith, c .before .before .loop .inv .words))
@@ -62,12 +65,45 @@ loop-again c =
     let second = third .before .before in
     let first = second .before .before in
     let l = first .before .before .before in
-    built-next (l .before .before .args .arcs .now) _ (l .loop .t) (l .loop .i) (l .loop .inv) (omega arith) _ _ _ _
-    (first .put .ensures .1) (second .put2 .ensures .1) (third .put3 .ensures .1) (c .put4 .ensures .1) (c .put4 .ensures .0)
+    built-next (l .before .before .args .arcs .now) _ (l .loop .t) (l .loop .i) (l .loop .inv) (omega arith) _ _ _
+    (first .put .ensures .1) (second .put2 .ensures .1) (third .put3 .ensures .1) (omega arith) _ (c .put4 .ensures .1) (c .put4 .ensures .0)
+
+put-requires-5 : tie.Need-put-requires-5 Inv-loop μ-loop
+put-requires-5 c κs =
+    let l = c .before .before .before in
+    (l .before .before .pre, (omega arith, l .loop .inv .words))
+
+add-put-4 : tie.Need-add-put-4 Inv-loop μ-loop
+add-put-4 c = omega arith
+
+put-requires-6 : tie.Need-put-requires-6 Inv-loop μ-loop
+put-requires-6 c κs = (c .before .before .before .before .before .before .before .pre, (omega arith, c .before .put5 .ensures .0))
+
+mul-put-3 : tie.Need-mul-put-3 Inv-loop μ-loop
+mul-put-3 c = omega arith
+
+add-put-5 : tie.Need-add-put-5 Inv-loop μ-loop
+add-put-5 c = omega arith
+
+put-requires-7 : tie.Need-put-requires-7 Inv-loop μ-loop
+put-requires-7 c κs = (c .before .before .before .before .before .before .before .before .before .pre, (omega arith, c .before .put6 .ensures .0))
 
 returns : tie.Need-returns Inv-loop μ-loop
 returns c =
-    built-end (c .before .before .before .args .arcs .now) _ (c .before .loop .t) (c .before .loop .i) (c .before .loop .inv) refl (c .loop-test .left)
+    let second = c .before .before in
+    let first = second .before .before in
+    let end = first .before .before .before in
+    let l = end .before in
+    let arcs = l .before .before .args .arcs .now in
+    let quarter = (length arcs / 2 + 1) / 4 in
+    let at-last : l .loop .i ≡ length arcs / 2 - 3 * quarter = omega (arith, l .loop .inv .within, end .loop-test .left) in
+    built-last arcs quarter (l .loop .t) _ (subst (Built arcs quarter (l .loop .t)) at-last (l .loop .inv)) (omega arith) _ _ _
+    (first .put5 .ensures .1) (second .put6 .ensures .1) (c .put7 .ensures .1) (omega arith) (omega arith)
+
+returns-2 : tie.Need-returns-2 Inv-loop μ-loop
+returns-2 c =
+    let l = c .before .before in
+    built-end (l .before .before .args .arcs .now) _ (l .loop .t) (l .loop .i) (l .loop .inv) (omega arith) (omega arith)
 
 pub table-of-spec : {M : Type 1} → statement M
 table-of-spec =
@@ -75,8 +111,9 @@ table-of-spec =
     (tie.spec
     Inv-loop
     μ-loop
-    mul-i-end
-    sub-i-end
+    add-quarter
+    mul-last
+    sub-last
     loop-holds
     put-requires
     add-put
@@ -90,4 +127,11 @@ table-of-spec =
     add-i
     loop-less
     loop-again
-    returns)
+    put-requires-5
+    add-put-4
+    put-requires-6
+    mul-put-3
+    add-put-5
+    put-requires-7
+    returns
+    returns-2)
