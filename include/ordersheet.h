@@ -39,7 +39,7 @@
  * nor the input. The calls never fail otherwise, whatever the input is: they allocate nothing, keep nothing between
  * calls, and may run on several threads at once. A call takes less than ORDERSHEET_STACK bytes of stack:
  * tests/stack/stack.c measures up to 45,000 for a sheet, 25,000 for a preview and, for bytes offered as a record,
- * 17,000 to read them, 14,000 for a longest run, 15,000 for gangs and 13,000 for a reason. */
+ * 18,000 to read them, 15,000 for a longest run, 16,000 for gangs and 14,000 for a reason. */
 
 #ifndef ORDERSHEET_H
 #define ORDERSHEET_H

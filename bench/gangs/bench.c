@@ -21,13 +21,14 @@ static inline uint64_t two_to(const uint8_t *record, unsigned last) {
 enum { EIGHT = 56 };   // the first bit of the eighth byte
 static inline int groups_in(uint64_t x) { return (x & (1ull << 39 | 1ull << 19)) != 0; }
 
-// A group around the one that is read. more: the children left after the one that is read. least: its smallest job. floor: what the next child of a side
-// group has to reach. at, end: a chain's first gang, and the one after its last. sum: the hours of its leaves, all of gang `at`.
-typedef struct { uint32_t sum; uint8_t more, least, floor, at, end; } group;
+// A group around the one that is read. more: the children left after the one that is read. least: its smallest job. rank: that of a side group's last chain
+// so far; left: as it is ahead of the next. at, end: a chain's first gang, and the one after its last. sum: the hours of its leaves, all of gang `at`.
+typedef struct { uint32_t sum; uint16_t rank; uint8_t more, least, left, at, end; } group;
 
 // A group is longer than a byte, so the length tells how many there are beside n leaves, and where the last leaf ends. A group of k + 1 children puts k
 // leaves more into the tree, so in all groups together k adds up to n - 1. With no more of either, as many leaves follow as are begun, and no leaf
-// that is read is tested for being there. twos: two leaves side by side are read at once.
+// that is read is tested for being there; and a chain has one leaf more than it takes of `left`. A side group has its chains first, then its leaves. twos: two
+// leaves side by side are read at once.
 static inline __attribute__((always_inline)) int find(const uint8_t *record, size_t length, result *r, int twos) {
     if (length < 4 || length > LONGEST) return 0;
     unsigned n = (record[0] >> 1) + 1, bits = 8 * length - 7;
@@ -37,7 +38,7 @@ static inline __attribute__((always_inline)) int find(const uint8_t *record, siz
     begin(r, n);
 
     group open[128], *around = open;
-    unsigned more, least, floor, at = 0, end, sum, job, last = FIRST;   // of the group that is read; in a side group, `at` is the gang after those so far
+    unsigned more, least, rank, at = 0, end, sum, job, last = FIRST;   // of the group that is read; in a side group, `at` is the gang after those so far
     uint32_t x = node_to(record, last);
     if (!group_in(x)) {
         if (job_in(x) != 0) return 0;
@@ -84,44 +85,44 @@ chain:
     r->hours[at] += sum;
     if (around == open) goto whole;
     around--;   // into the side group around it
-    if (least < around->floor) return 0;
-    more = around->more, floor = least + 1, at = end;
+    rank = rank_of(1 + around->left - left, least);
+    if (rank <= around->rank) return 0;
+    more = around->more, at = end;
     if (around->least < least) least = around->least;
     goto sided;
 
 side:
-    more = more_in(x), least = 128, floor = 0;
+    more = more_in(x), least = 128, rank = 0;
     if (more == 0 || more > left || groups == 0) return 0;
     left -= more, groups--, last += GROUP;
     for (;;) {
-        if (twos && more >= 2 && last + LEAF >= EIGHT) do {
-            uint64_t y = two_to(record, last + LEAF);
-            if (groups_in(y)) break;
-            unsigned first = job_in(y >> LEAF);
-            job = job_in(y);
-            if (first < floor || job <= first || r->gangs[first] != NO_GANG || r->gangs[job] != NO_GANG) return 0;
-            r->gangs[first] = at, r->hours[at] += hours_in(y >> LEAF), at++;
-            r->gangs[job] = at, r->hours[at] += hours_in(y), at++;
-            if (first < least) least = first;
-            floor = job + 1;
-            last += 2 * LEAF, more -= 2;
-        } while (more >= 2);
         x = node_to(record, last);
-        if (group_in(x)) {
-            if (kind_in(x) != CHAIN) return 0;
-            around->more = more, around->least = least, around->floor = floor;
-            around++;
-            goto chain;
-        }
-        job = job_in(x);
-        if (job < floor || r->gangs[job] != NO_GANG) return 0;
-        r->gangs[job] = at, r->hours[at] += hours_in(x), at++;
-        if (job < least) least = job;
-        floor = job + 1;
-        last += LEAF;
+        if (!group_in(x)) break;
+        if (kind_in(x) != CHAIN) return 0;
+        around->more = more, around->least = least, around->rank = rank, around->left = left;
+        around++;
+        goto chain;
     sided:
-        if (more-- == 0) break;
+        if (more-- == 0) goto side_end;
     }
+    for (job = job_in(x), least = job < least ? job : least;;) {
+        if (r->gangs[job] != NO_GANG) return 0;
+        r->gangs[job] = at, r->hours[at] += hours_in(x), at++;
+        last += LEAF;
+        for (; twos && more >= 2; more -= 2) {
+            uint64_t y = two_to(record, last + LEAF);
+            unsigned first = job_in(y >> LEAF), second = job_in(y);
+            if (groups_in(y) || first <= job || second <= first || r->gangs[first] != NO_GANG || r->gangs[second] != NO_GANG) return 0;
+            r->gangs[first] = at, r->hours[at] += hours_in(y >> LEAF), at++;
+            r->gangs[second] = at, r->hours[at] += hours_in(y), at++;
+            last += 2 * LEAF, job = second;
+        }
+        if (more-- == 0) break;
+        x = node_to(record, last);
+        if (group_in(x) || job_in(x) <= job) return 0;
+        job = job_in(x);
+    }
+side_end:
     end = at;
     if (around == open) goto whole;
     around--;   // into the chain around it

@@ -24,11 +24,11 @@ static inline int filled(const uint8_t *record, size_t length, unsigned last) {
     return last >> 3 == length - 1 && (uint8_t)(record[length - 1] << (last & 7) << 1) == 0;
 }
 
-// A group that is being read. more: the children left after the one that is read. least: its smallest job. begin: its first place. floor: what the next
-// child of a side group has to reach. total: of its children so far, or the greatest of theirs; from, to: that child's places, and the place behind them.
-typedef struct { int total; uint8_t more, least, begin, floor, from, to; } group;
+// A group that is being read. more: the children left after the one that is read. least: its smallest job. begin: its first place. rank: that of a side
+// group's last chain so far. total: of its children so far, or the greatest of theirs; from, to: that child's places, and the place behind them.
+typedef struct { int total; uint16_t rank; uint8_t more, least, begin, from, to; } group;
 
-// By groups: those around the one that is read are in a list, a chain and a side group in turn.
+// By groups: those around the one that is read are in a list, a chain and a side group in turn. A side group has its chains first, then its leaves.
 static int find_by_groups(const uint8_t *record, size_t length, ordersheet_run *r) {
     if (length < 4 || length > LONGEST) return 0;
     group open[128], *around = open;
@@ -36,7 +36,7 @@ static int find_by_groups(const uint8_t *record, size_t length, ordersheet_run *
     uint8_t seen[128];
     clear(seen, sizeof seen);
     unsigned n = (record[0] >> 1) + 1, bits = 8 * length, last = FIRST, placed = 0, groups = 0;
-    unsigned more, least, begin, floor, from, to, job;   // of the group that is read
+    unsigned more, least, begin, rank, from, to, job;   // of the group that is read
     int total;
     uint32_t x = node_to(record, last);
     if (!group_in(x)) {
@@ -75,39 +75,44 @@ chain:
         unsigned l = least, b = begin;
         around--;
         total = around->total, more = around->more, least = around->least, begin = around->begin;
-        floor = around->floor, from = around->from, to = around->to;
-        if (l < floor) return 0;
-        floor = l + 1;
+        from = around->from, to = around->to;
+        rank = rank_of(placed - b, l);
+        if (rank <= around->rank) return 0;
         if (l < least) least = l;
         if (t > total) total = t, from = b, to = placed;
         goto sided;
     }
 
 side:
-    more = more_in(x), total = -1, least = 128, begin = placed, floor = 0, from = 0, to = 0;
+    more = more_in(x), total = -1, least = 128, begin = placed, rank = 0, from = 0, to = 0;
     if (more == 0 || ++groups == n) return 0;
     last += GROUP;
     for (;;) {
         if (last >= bits) return 0;
         x = node_to(record, last);
-        if (group_in(x)) {
-            if (kind_in(x) != CHAIN) return 0;
-            around->total = total, around->more = more, around->least = least, around->begin = begin;
-            around->floor = floor, around->from = from, around->to = to;
-            around++;
-            goto chain;
-        }
-        job = job_in(x);
-        if (job >= n || job < floor || seen[job]) return 0;
+        if (!group_in(x)) break;
+        if (kind_in(x) != CHAIN) return 0;
+        around->total = total, around->more = more, around->least = least, around->begin = begin;
+        around->rank = rank, around->from = from, around->to = to;
+        around++;
+        goto chain;
+    sided:
+        if (more-- == 0) goto side_end;
+    }
+    for (job = job_in(x), least = job < least ? job : least;;) {
+        if (seen[job]) return 0;
         seen[job] = 1;
-        floor = job + 1;
-        if (job < least) least = job;
         if ((int)hours_in(x) > total) total = hours_in(x), from = placed, to = placed + 1;
         places[placed++] = job;
         last += LEAF;
-    sided:
         if (more-- == 0) break;
+        if (last >= bits) return 0;
+        x = node_to(record, last);
+        if (group_in(x) || job_in(x) <= job) return 0;
+        job = job_in(x);
     }
+    if (job >= n) return 0;   // the greatest of them
+side_end:
     pass_over(places, begin, from, to, placed);
     if (around == open) goto whole;
     around--;   // into the chain around it
@@ -154,14 +159,14 @@ static found chain(place *s, unsigned more) {
 }
 static found beside(place *s, unsigned more) {
     found best = {-1, 128};
-    unsigned begin = s->placed, from = 0, to = 0, floor = 0;
+    unsigned begin = s->placed, from = 0, to = 0, rank = 0;
     do {
-        unsigned here = s->placed;
+        unsigned here = s->placed, before = rank;
         if (s->last >= s->bits) return NONE;
         uint32_t x = node_to(s->record, s->last);
         found f = !group_in(x) ? leaf(s, x) : opened(s, x, CHAIN) ? chain(s, more_in(x)) : NONE;
-        if (f.total < 0 || f.least < floor) return NONE;
-        floor = f.least + 1;
+        rank = rank_of(s->placed - here, f.least);
+        if (f.total < 0 || rank <= before) return NONE;
         if (f.least < best.least) best.least = f.least;
         if (f.total > best.total) best.total = f.total, from = here, to = s->placed;
     } while (more--);

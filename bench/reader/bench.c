@@ -16,12 +16,13 @@ static inline unsigned size(set a) { return ones(a.w[0]) + ones(a.w[1]); }
 typedef struct { uint8_t least, first, last; } part;
 // The jobs of a part with none of the part before them, after them, and how many these are.
 typedef struct { set sources, sinks; unsigned source_count, sink_count; } ends;
-// A group that is being read. more: the children left after the one that is read. floor: what the next child of a side group has to reach.
-typedef struct { uint8_t kind, more, floor; part read; } group;
+// A group that is being read. more: the children left after the one that is read. begin: the leaves ahead of it. rank: of its last child so far, if it is a side
+// group.
+typedef struct { uint16_t rank; uint8_t kind, more, begin; part read; } group;
 // ahead: for each job the one ahead of it in the reverse sequence. rows: the reduced orders, so many.
 typedef struct { unsigned n, groups; part whole; ends ends; uint8_t forward[128], ahead[129]; set rows[128]; unsigned orders; } reading;
 enum { NOTHING = 128 };
-static inline group begin(unsigned kind, unsigned more) { return (group){kind, more, 0, {NOTHING, NOTHING, NOTHING}}; }
+static inline group begin(unsigned kind, unsigned more, unsigned placed) { return (group){0, kind, more, placed, {NOTHING, NOTHING, NOTHING}}; }
 
 // Whether the bytes are a record, and its tree. by_tree: the reduced orders as well, from the ends of neighbours in a chain; else both sequences.
 static inline __attribute__((always_inline)) int read_tree(const uint8_t *record, size_t length, reading *r, int by_tree) {
@@ -31,7 +32,7 @@ static inline __attribute__((always_inline)) int read_tree(const uint8_t *record
     memcpy(bytes, record, length);
     memset(bytes + length, 0, 8);
 
-    group open[128], g = begin(NEITHER, 0);   // the groups around g, which holds the tree at first; a tree has fewer groups than jobs
+    group open[128], g = begin(NEITHER, 0, 0);   // the groups around g, which holds the tree at first; a tree has fewer groups than jobs
     ends of_open[128], *e = of_open, f;       // e: those of g
     unsigned n = (bytes[0] >> 1) + 1, at = 7, placed = 0, groups = 0, depth = 0, orders = 0;
     set seen = {{0, 0}};
@@ -43,7 +44,7 @@ static inline __attribute__((always_inline)) int read_tree(const uint8_t *record
             unsigned kind = bits >> 14 & 1, more = bits >> 7 & 127;
             if (more == 0 || groups + 1 == n || g.kind == kind) return 0;
             open[depth++] = g;
-            g = begin(kind, more);
+            g = begin(kind, more, placed);
             e++;
             if (by_tree) memset(e, 0, sizeof *e);
             groups++;
@@ -53,6 +54,7 @@ static inline __attribute__((always_inline)) int read_tree(const uint8_t *record
         unsigned job = bits >> 8 & 127;
         if (job >= n || has(seen, job)) return 0;
         seen.w[job >> 6] |= 1ull << (job & 63);
+        unsigned from = placed;   // p's first leaf
         r->forward[placed++] = job;
         at += LEAF;
         p = (part){job, job, job};
@@ -63,8 +65,9 @@ static inline __attribute__((always_inline)) int read_tree(const uint8_t *record
             int begun = q->first != NOTHING;
             if (p.least < q->least) q->least = p.least;
             if (g.kind == SIDE) {
-                if (p.least < g.floor) return 0;
-                g.floor = p.least + 1;
+                unsigned rank = rank_of(placed - from, p.least);
+                if (rank <= g.rank) return 0;
+                g.rank = rank;
                 if (by_tree) {
                     e->sources = or_(e->sources, f.sources), e->source_count += f.source_count;
                     e->sinks = or_(e->sinks, f.sinks), e->sink_count += f.sink_count;
@@ -82,7 +85,7 @@ static inline __attribute__((always_inline)) int read_tree(const uint8_t *record
                 q->last = p.last;
             }
             if (g.more-- > 0) break;
-            p = g.read;
+            p = g.read, from = g.begin;
             if (by_tree) f = *e;
             if (depth == 0) goto whole;
             g = open[--depth], e--;
@@ -126,11 +129,16 @@ static int chain(place *s, unsigned more, part *p) {
 }
 static int beside(place *s, unsigned more, part *p) {
     part q;
+    unsigned from = s->placed, rank, before;
     if (!child(s, SIDE, p)) return 0;
-    for (unsigned floor = p->least; more--; floor = q.least) {
-        if (!child(s, SIDE, &q) || q.least <= floor) return 0;
+    for (before = rank_of(s->placed - from, p->least); more--; before = rank) {
+        from = s->placed;
+        if (!child(s, SIDE, &q)) return 0;
+        rank = rank_of(s->placed - from, q.least);
+        if (rank <= before) return 0;
         s->r->ahead[p->first] = q.last;
         p->first = q.first;
+        if (q.least < p->least) p->least = q.least;
     }
     return 1;
 }

@@ -74,28 +74,38 @@ static unsigned read_chain(reading *s, unsigned more) {
     s->at = at, s->placed = placed;
     return part(least, first, last);
 }
+// First the chains, then the leaves, from the smallest job on. The first eight bits of a leaf are its job, and those of a group are more than any.
 static unsigned read_beside(reading *s, unsigned more) {
-    unsigned at = s->at, placed = s->placed, floor = 0, least = NOTHING, first = NOTHING, last = NOTHING;
-    do {
-        uint32_t x = bits_at(s->bytes, at) >> 12;
-        if (group_in(x)) {
-            unsigned p = read_group(s, x, CHAIN, at, placed);
-            if (p == NO_PART || least_of(p) < floor) return NO_PART;
-            at = s->at, placed = s->placed;
-            floor = least_of(p) + 1;
-            s->ahead[first] = last_of(p);
-            first = first_of(p);
-            if (least == NOTHING) least = least_of(p), last = last_of(p);
-        } else {
-            unsigned job = job_in(x);
-            if (job < floor || !read_leaf(s, x, placed)) return NO_PART;
-            at += LEAF, placed++;
-            floor = job + 1;
-            s->ahead[first] = job;
-            first = job;
-            if (least == NOTHING) least = last = job;
-        }
-    } while (more--);
+    unsigned at = s->at, placed = s->placed, rank = 0, least = NOTHING, first = NOTHING, last = NOTHING, job;
+    uint32_t x = bits_at(s->bytes, at) >> 12;
+    for (; group_in(x); x = bits_at(s->bytes, at) >> 12) {
+        unsigned p = read_group(s, x, CHAIN, at, placed), before = rank;
+        rank = rank_of(s->placed - placed, least_of(p));
+        if (p == NO_PART || rank <= before) return NO_PART;
+        at = s->at, placed = s->placed;
+        s->ahead[first] = last_of(p);
+        first = first_of(p);
+        if (last == NOTHING) last = last_of(p);
+        if (least_of(p) < least) least = least_of(p);
+        if (more-- == 0) goto whole;
+    }
+    job = job_in(x);
+    if (last == NOTHING) last = job;
+    if (job < least) least = job;
+    for (unsigned n = s->n;;) {
+        if (job >= n || s->seen[job]) return NO_PART;
+        s->seen[job] = 1;
+        s->forward[placed++] = job;
+        s->hours[job] = hours_in(x);
+        at += LEAF;
+        s->ahead[first] = job;
+        first = job;
+        if (more-- == 0) break;
+        x = bits_at(s->bytes, at) >> 12;
+        if (x >> 12 <= job) return NO_PART;
+        job = x >> 12;
+    }
+whole:
     s->at = at, s->placed = placed;
     return part(least, first, last);
 }

@@ -15,6 +15,8 @@ static inline set only(unsigned v) { return v < 64 ? (set){{1ull << v, 0}} : (se
 
 enum { LONGEST = 464, GROUP = 9, LEAF = 20, NO_RECORD = 11, NO_ROOM = 10 };   // bytes of a record, bits of a node; a leaf's last twelve are its hours
 enum { CHAIN, SIDE, NEITHER };
+// Of a child of a side group, by its jobs and the smallest of them: these ascend. A leaf has a greater one than every chain, and none is 0.
+static inline unsigned rank_of(unsigned jobs, unsigned least) { return (128 - jobs) << 7 | least; }
 enum { ROWS = 64, DAMAGED = 200000 };
 typedef struct { char name[48]; uint8_t bytes[ORDERSHEET_RECORD_AREA + 1]; size_t length; } named;
 static named records[ROWS];
@@ -135,6 +137,29 @@ static void exchange(uint8_t *b) {
     put(b, x + 1, 7, j);
     put(b, y + 1, 7, i);
 }
+// The bit after the tree that begins here.
+static unsigned past(const uint8_t *b, unsigned at) {
+    for (unsigned trees = 1; trees; trees--) {
+        if (is_group(b, at)) trees += 1 + (node_at(b, at) >> 7 & 127), at += GROUP;
+        else at += LEAF;
+    }
+    return at;
+}
+// Two neighbours in a side group change places: children out of order.
+static void change_places(uint8_t *b) {
+    uint8_t old[ORDERSHEET_RECORD_AREA + 8];
+    unsigned side[128], k = 0, x, y, z;
+    for (unsigned at = 7, end = past(b, 7); at < end; at += is_group(b, at) ? GROUP : LEAF) if (node_at(b, at) >> 14 == 3) side[k++] = at;
+    if (k == 0) return;
+    x = side[below(k)], k = below(node_at(b, x) >> 7 & 127);
+    for (x += GROUP; k; k--) x = past(b, x);
+    y = past(b, x), z = past(b, y);
+    memcpy(old, b, sizeof old);
+    for (unsigned at = x; at < z; at++) {
+        unsigned from = at < x + (z - y) ? at + (y - x) : at - (z - y);
+        put(b, at, 1, old[from >> 3] >> (~from & 7) & 1);
+    }
+}
 static size_t random_record(uint8_t *record, int n) {
     int wide = below(100);
     start(n, 1);
@@ -164,7 +189,7 @@ static void compare(answered *same) {
         }
         size_t m = length, x = below(m), y = below(256);
         memcpy(b, record, sizeof b);
-        switch (below(7)) {
+        switch (below(8)) {
         case 0: exchange(b); break;
         case 1: for (int k = 1 + below(3); k--; x = below(m)) b[x] ^= 1 << below(8); break;
         case 2: b[x] = y; break;
@@ -172,6 +197,7 @@ static void compare(answered *same) {
         case 4: for (int k = 1 + below(4); k--;) b[m++] = below(2) ? 0 : below(256); break;
         case 5: b[m - 1] ^= 1 << below(8); break;
         case 6: for (size_t k = x; k < m; k++) b[k] = below(4) ? below(256) : 0x80 | below(2); break;
+        case 7: change_places(b); break;
         }
         accepted += ordersheet_number(apart(b, m, same)) == 0;
     }

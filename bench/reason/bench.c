@@ -64,13 +64,14 @@ static inline int opens(uint64_t x) { return x >> 63; }
 static inline int side_in(uint64_t x) { return x >> 62 & 1; }
 static inline unsigned job_at(uint64_t x, unsigned shift) { return x >> shift & 127; }
 
-// The group that is read, and those around it. more: the children left after the one that is read. least: its smallest job. floor: what the next child of a
-// side group has to reach. Of the group that is read these three are in variables. at: its position. had: the groups that were left with it.
-typedef struct { uint8_t more, least, floor, at, had; } group;
+// The group that is read, and those around it. more: the children left after the one that is read. least: its smallest job. rank: that of a side group's
+// last chain so far. Of the group that is read these three are in variables. left: as it is ahead of a side group's next chain. at: its position. had: the groups
+// that were left with it.
+typedef struct { uint16_t rank; uint8_t more, least, left, at, had; } group;
 
 // As in gangs/, the length tells how many groups there are beside n leaves, and where the last leaf ends, and no leaf that is read is tested for being there.
-// The first group that ends after both jobs are met in it is the lowest over both. threes: three leaves side by side are read at once, and a job that is met
-// again or is not below the count is found at the end.
+// The first group that ends after both jobs are met in it is the lowest over both. A side group has its chains first, then its leaves. threes: three leaves side
+// by side are read at once, and a job that is met again or is not below the count is found at the end.
 static inline __attribute__((always_inline)) int find(const uint8_t *record, size_t length, result *r, int threes) {
     if (length < 4 || length > LONGEST) return 0;
     unsigned n = (record[0] >> 1) + 1, bits = 8 * length - 7;
@@ -83,7 +84,7 @@ static inline __attribute__((always_inline)) int find(const uint8_t *record, siz
     if (asked.first < n && asked.second < n && asked.first != asked.second) one = leaf + asked.first, other = leaf + asked.second;
 
     group open[128], *g = open;
-    unsigned more, least, floor, job, last = FIRST, node = 0;
+    unsigned more, least, rank, job, last = FIRST, node = 0;
     uint64_t x = (uint64_t)node_to(record, last) << 44;
     if (!opens(x)) {
         if (job_at(x, 56) != 0) return 0;
@@ -132,45 +133,42 @@ chain_end:
     }
     if (g == open) goto whole;
     g--;   // into the side group around it
-    if (least < g->floor) return 0;
-    more = g->more, floor = least + 1;
+    rank = rank_of(1 + g->left - left, least);
+    if (rank <= g->rank) return 0;
+    more = g->more;
     if (g->least < least) least = g->least;
     goto sided;
 
 side:
-    more = job_at(x, 55), least = 128, floor = 0;
+    more = job_at(x, 55), least = 128, rank = 0;
     if (more == 0 || more > left || groups == 0) return 0;
     g->at = node, g->had = groups;
     left -= more, groups--, node++, last += GROUP;
     for (;;) {
-        while (threes && more >= 2) {
+        x = (uint64_t)node_to(record, last) << 44;
+        if (!opens(x)) break;
+        if (side_in(x)) return 0;
+        g->more = more, g->least = least, g->rank = rank, g->left = left;
+        g++;
+        goto chain;
+    sided:
+        if (more-- == 0) goto side_end;
+    }
+    for (job = job_at(x, 56), least = job < least ? job : least;;) {
+        if (!threes && leaf[job]) return 0;
+        leaf[job] = node++;
+        last += LEAF;
+        for (; threes && more >= 3; more -= 3) {
             x = three_from(record, last - (LEAF - 1));
-            if (groups_in(x)) goto side_child;
             unsigned a = job_at(x, 56), b = job_at(x, 36), c = job_at(x, 16);
             leaf[a] = node, leaf[b] = node + 1, leaf[c] = node + 2;
-            if ((int)((a - floor) | (b - a - 1) | (c - b - 1)) < 0) return 0;
-            if (a < least) least = a;
-            floor = c + 1;
-            last += 3 * LEAF, node += 3;
-            if (more == 2) goto side_end;
-            more -= 3;
+            if (groups_in(x) || (int)((a - job - 1) | (b - a - 1) | (c - b - 1)) < 0) return 0;
+            last += 3 * LEAF, node += 3, job = c;
         }
-        x = (uint64_t)node_to(record, last) << 44;
-    side_child:
-        if (opens(x)) {
-            if (side_in(x)) return 0;
-            g->more = more, g->least = least, g->floor = floor;
-            g++;
-            goto chain;
-        }
-        job = job_at(x, 56);
-        if (job < floor || (!threes && leaf[job])) return 0;
-        leaf[job] = node++;
-        if (job < least) least = job;
-        floor = job + 1;
-        last += LEAF;
-    sided:
         if (more-- == 0) break;
+        x = (uint64_t)node_to(record, last) << 44;
+        if (opens(x) || job_at(x, 56) <= job) return 0;
+        job = job_at(x, 56);
     }
 side_end:
     if (*one > g->at && *other > g->at) {

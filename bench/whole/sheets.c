@@ -99,6 +99,7 @@ static void line(int most) {
     for (int u = 0; u < JOBS; u++) for (int v = u + 1; v < JOBS; v++) before[u][v] = 1;
     add_redundant(most);
 }
+static void pairs(int from) { for (int u = from; u < JOBS; u += 2) add(u, u + 1); }
 static void last_four(void) { add(124, 126); add(125, 126); add(125, 127); }
 
 int main(int argc, char **argv) {
@@ -135,6 +136,8 @@ int main(int argc, char **argv) {
     sheet("circle-last", 128);
     bipartite(); sheet_ending("broken-last", 128, " ");
     if (!former) { over = 127; start(); sheet("hours-over", 128); over = -1; }
-    if (ends == CRLF) { ends = EITHER; bipartite(); sheet("either", 128); }
+    if (ends == CRLF) { ends = EITHER; bipartite(); sheet("either", 128); ends = CRLF; }
+    start(); pairs(0); sheet("pairs", 128);
+    start(); pairs(64); sheet("pairs-last", 128);   // 64 single jobs and 32 pairs, which all have to go ahead of them
     return 0;
 }

@@ -187,8 +187,8 @@ static void turn(set *under, const set *after, unsigned n) {
         }
 }
 
-// near: comparable jobs. bytes, at, value, have: the record's bytes, four at a time, and up to 31 bits more.
-typedef struct { set near[128], under[128], parts[256]; const uint16_t *hours; uint8_t bytes[464]; uint64_t value; unsigned at, have, groups; } tree;
+// near: comparable jobs. jobs: how many jobs each of parts has. bytes, at, value, have: the record's bytes, four at a time, and up to 31 bits more.
+typedef struct { set near[128], under[128], parts[256]; uint8_t jobs[256]; const uint16_t *hours; uint8_t bytes[464]; uint64_t value; unsigned at, have, groups; } tree;
 
 static inline void put(tree *t, unsigned field, unsigned width) {
     t->value = t->value << width | field;
@@ -206,10 +206,10 @@ static inline void put_group(tree *t, unsigned side, unsigned children) {
     t->groups++;
 }
 
-// What of s is not joined to x by a run of comparable jobs of s (side), or of free ones.
-static inline set apart(const tree *t, set s, unsigned x, int side) {
+// What of s is not joined to x by a run of comparable jobs of s (side), or of free ones. If that is something, size is how many jobs are.
+static inline set apart(const tree *t, set s, unsigned x, int side, unsigned *size) {
     set todo = only(x), rest = less(s, todo);
-    while (some(todo) && some(rest)) {
+    for (*size = 0; some(todo) && some(rest); ++*size) {
         set near = t->near[low(todo)], found = side ? both(rest, near) : less(rest, near);
         todo = join(but_low(todo), found);
         rest = less(rest, found);
@@ -217,30 +217,35 @@ static inline set apart(const tree *t, set s, unsigned x, int side) {
     return rest;
 }
 
-// The children of s as a group of this kind, from parts on; how many.
-static inline unsigned split(const tree *t, set s, int side, set *parts) {
-    unsigned k = 0;
+// The children of s, which has so many jobs, as a group of this kind, from parts on, and how many jobs each has; how many. Side by side they are found by their
+// smallest jobs, and each goes ahead of those that have fewer.
+static inline unsigned split(const tree *t, set s, unsigned whole, int side, set *parts, uint8_t *jobs) {
+    unsigned k = 0, j, size;
     while (some(s)) {
         unsigned x = low(s);
         if (!side)   // the first child has no job of the rest before it; from low to high, so that neither of two series takes long
             for (set u = both(t->under[x], s); some(u); u = both(t->under[x], s)) x = high(u);
-        set rest = apart(t, s, x, side);
-        parts[k++] = less(s, rest);
+        set rest = apart(t, s, x, side, &size);
+        if (!some(rest)) size = whole;
+        whole -= size;
+        for (j = k++; side && j && jobs[j - 1] < size; j--) parts[j] = parts[j - 1], jobs[j] = jobs[j - 1];
+        parts[j] = less(s, rest);
+        jobs[j] = size;
         s = rest;
     }
     return k;
 }
 
 // Writes the k children of a group, parts[0] to parts[k - 1]; 0 where one of them is crossed.
-static int children(tree *t, set *parts, unsigned k, int side) {
+static int children(tree *t, set *parts, uint8_t *jobs, unsigned k, int side) {
     put_group(t, side, k);
     for (unsigned i = 0; i < k; i++) {
-        if (!some(but_low(parts[i]))) {
+        if (jobs[i] == 1) {
             put_leaf(t, low(parts[i]));
             continue;
         }
-        unsigned j = split(t, parts[i], !side, parts + k);
-        if (j == 1 || !children(t, parts + k, j, !side)) return 0;
+        unsigned j = split(t, parts[i], jobs[i], !side, parts + k, jobs + k);
+        if (j == 1 || !children(t, parts + k, jobs + k, j, !side)) return 0;
     }
     return 1;
 }
@@ -255,9 +260,9 @@ static int write_record(tree *t, unsigned n) {
         put_leaf(t, 0);
     } else {
         int side = 1;
-        unsigned k = split(t, all, 1, t->parts);
-        if (k == 1) side = 0, k = split(t, all, 0, t->parts);
-        if (k == 1 || !children(t, t->parts, k, side)) return 0;
+        unsigned k = split(t, all, n, 1, t->parts, t->jobs);
+        if (k == 1) side = 0, k = split(t, all, n, 0, t->parts, t->jobs);
+        if (k == 1 || !children(t, t->parts, t->jobs, k, side)) return 0;
     }
     for (t->value <<= 32 - t->have; t->have; t->have = t->have > 8 ? t->have - 8 : 0, t->value <<= 8) t->bytes[t->at++] = t->value >> 24;
     return 1;

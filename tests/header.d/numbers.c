@@ -354,11 +354,19 @@ static void longest_runs(void)
     sheet_runs("a run, no hours in a side group", "3\n0\n0\n0\n", 0, JOBS(0));
     sheet_runs("a run, the second child", "3\n4\n6\n5\n", 6, JOBS(1));
     sheet_runs("a run, the second child as great as the third", "3\n4\n6\n6\n", 6, JOBS(1));
-    sheet_runs("a run, a job as great as a chain after it", "3\n7\n3\n4\n1 2\n", 7, JOBS(0));
+    sheet_runs("a run, a chain as great as a smaller job after it", "3\n7\n3\n4\n1 2\n", 7, JOBS(1, 2));
+    sheet_runs("a run, a chain less than a smaller job after it", "3\n8\n3\n4\n1 2\n", 8, JOBS(0));
     sheet_runs("a run, a chain as great as a job after it", "3\n3\n7\n4\n0 2\n", 7, JOBS(0, 2));
     sheet_runs("a run, a chain less than a job after it", "3\n3\n8\n4\n0 2\n", 8, JOBS(1));
+    sheet_runs("a run, two chains as great, of as many jobs", "4\n4\n3\n4\n3\n3 0\n1 2\n", 7, JOBS(3, 0));
+    /* 3 before 4, 5 and 6, four jobs: 3 + 4 hours; after it 0 before 1 before 2: 2 + 2 + 3, then 2 + 2 + 4 */
+    sheet_runs("a run, as great as one of more jobs after it", "7\n2\n2\n3\n3\n1\n4\n4\n3 4\n3 5\n3 6\n0 1\n1 2\n", 7, JOBS(3, 5));
+    sheet_runs("a run, less than one of more jobs after it", "7\n2\n2\n4\n3\n1\n4\n4\n3 4\n3 5\n3 6\n0 1\n1 2\n", 8, JOBS(0, 1, 2));
     /* 5 before 3 and 0; 3 before 1, and 0 free of both; then 2; 4 beside all of it: 9 + (2 + 6) + 1 = 18, and 7 of job 0, 17 of job 4 */
     sheet_runs("a run, groups in groups", "6\n7\n6\n1\n2\n17\n9\n5 3\n5 0\n3 1\n1 2\n0 2\n", 18, JOBS(5, 3, 1, 2));
+    /* and with 8 and 9 hours of job 0: as many as 3 and 1 have, which are ahead of it, and more: 9 + 9 + 1 = 19 */
+    sheet_runs("a run, groups in groups, as great", "6\n8\n6\n1\n2\n17\n9\n5 3\n5 0\n3 1\n1 2\n0 2\n", 18, JOBS(5, 3, 1, 2));
+    sheet_runs("a run, groups in groups, greater", "6\n9\n6\n1\n2\n17\n9\n5 3\n5 0\n3 1\n1 2\n0 2\n", 19, JOBS(5, 0, 2));
 
     uint8_t jobs[ORDERSHEET_JOBS];
     length = (size_t)sprintf(sheet, "%d\n", ORDERSHEET_JOBS);
@@ -390,6 +398,26 @@ static void sheet_listed(const char *name, unsigned count, const uint8_t *gangs)
     sheet_gangs(name, sheet, count, hours, ORDERSHEET_JOBS, gangs);
 }
 
+/* The sheet of halves of halves, from job 127 down: of n jobs, 128 at first, n / 2 + 1 in a chain; beside them, with fewer jobs and all the smaller ones, one job
+ * before all that are left, which are halved again, down to one. So there are 127 to 63 in a chain, then 62 before all smaller ones; 61 to 30, then 29; 28 to 14,
+ * then 13; 12 to 6, then 5; 4 to 2, then 1, then 0. The list has how many chains are ahead of each job. */
+static void halves(uint8_t *ahead)
+{
+    static const unsigned before_all[] = {62, 29, 13, 5, 1, 0};
+    unsigned chain = 0;
+    start(ORDERSHEET_JOBS);
+    for (unsigned job = ORDERSHEET_JOBS; job-- > 0;) {
+        if (job == before_all[chain]) {
+            chain += job > 0;
+            for (unsigned smaller = 0; smaller < job; smaller++)
+                order(job, smaller);
+        } else if (job - 1 != before_all[chain]) {
+            order(job, job - 1);
+        }
+        ahead[job] = (uint8_t)chain;
+    }
+}
+
 static void fewest_gangs(void)
 {
     check("ordersheet_gang_plan", "a plan has not 656 bytes", sizeof(ordersheet_gang_plan) == 656);
@@ -403,15 +431,21 @@ static void fewest_gangs(void)
     sheet_gangs("gangs, a chain", "3\n3\n0\n4\n0 1\n1 2\n", HOURS(7), JOBS(0, 0, 0));
     sheet_gangs("gangs, a side group", "3\n4\n6\n5\n", HOURS(4, 6, 5), JOBS(0, 1, 2));
     sheet_gangs("gangs, no hours in a side group", "3\n0\n0\n0\n", HOURS(0, 0, 0), JOBS(0, 1, 2));
-    sheet_gangs("gangs, a job ahead of a chain", "3\n7\n3\n5\n1 2\n", HOURS(7, 8), JOBS(0, 1, 1));
+    sheet_gangs("gangs, a chain ahead of a smaller job", "3\n7\n3\n5\n1 2\n", HOURS(8, 7), JOBS(1, 0, 0));
     sheet_gangs("gangs, a chain ahead of a job", "3\n3\n8\n4\n0 2\n", HOURS(7, 8), JOBS(0, 1, 0));
+    /* 2 before 3 before 4, then 0 before 1: 4 + 8 + 16 and 1 + 2 hours; then 3 before 0, and 1 before 2: 8 + 1 and 2 + 4 */
+    sheet_gangs("gangs, a chain ahead of a shorter one", "5\n1\n2\n4\n8\n16\n0 1\n2 3\n3 4\n", HOURS(28, 3), JOBS(1, 1, 0, 0, 0));
+    sheet_gangs("gangs, a chain ahead of one of as many jobs", "4\n1\n2\n4\n8\n1 2\n3 0\n", HOURS(9, 6), JOBS(0, 1, 1, 0));
     /* 0 and 1 before 2, 3 and 4: 1 + 4, 2 + 8 and 16 hours; then 0, 1 and 2 before 3 and 4: 1 + 8, 2 + 16 and 4 */
     sheet_gangs("gangs, two before three", "5\n1\n2\n4\n8\n16\n0 2\n0 3\n0 4\n1 2\n1 3\n1 4\n", HOURS(5, 10, 16), JOBS(0, 1, 0, 1, 2));
     sheet_gangs("gangs, three before two", "5\n1\n2\n4\n8\n16\n0 3\n0 4\n1 3\n1 4\n2 3\n2 4\n", HOURS(9, 18, 4), JOBS(0, 1, 2, 0, 1));
-    /* 0; beside it 1 and 2 before 3, of two gangs, the first numbered 1; beside both 4: 1, 2 + 8, 4 and 16 hours */
-    sheet_gangs("gangs, a chain that ends narrow", "5\n1\n2\n4\n8\n16\n1 3\n2 3\n", HOURS(1, 10, 4, 16), JOBS(0, 1, 2, 1, 3));
-    /* 5 before 3 and 0; 3 before 1, and 0 free of both; then 2; 4 beside all of it: 9 + 7 + 1, 2 + 6 and 17 hours */
-    sheet_gangs("gangs, groups in groups", "6\n7\n6\n1\n2\n17\n9\n5 3\n5 0\n3 1\n1 2\n0 2\n", HOURS(17, 8, 17), JOBS(0, 1, 0, 1, 2, 0));
+    /* 1 and 2 before 3, of two gangs; beside it 0, and beside both 4: 2 + 8, 4, 1 and 16 hours */
+    sheet_gangs("gangs, a chain that ends narrow", "5\n1\n2\n4\n8\n16\n1 3\n2 3\n", HOURS(10, 4, 1, 16), JOBS(2, 0, 1, 0, 3));
+    /* 4 before 5 before 6 before 7; beside it 1 and 2 before 3, of two gangs, the first numbered 1; beside both 0: 16 + 32 + 64 + 128, 2 + 8, 4 and 1 hours */
+    sheet_gangs("gangs, a chain that ends narrow, after another", "8\n1\n2\n4\n8\n16\n32\n64\n128\n1 3\n2 3\n4 5\n5 6\n6 7\n", HOURS(240, 10, 4, 1),
+                JOBS(3, 1, 2, 1, 0, 0, 0, 0));
+    /* 5 before 3 and 0; 3 before 1, and 0 free of both; then 2; 4 beside all of it: 9 + (2 + 6) + 1, 7 and 17 hours */
+    sheet_gangs("gangs, groups in groups", "6\n7\n6\n1\n2\n17\n9\n5 3\n5 0\n3 1\n1 2\n0 2\n", HOURS(18, 7, 17), JOBS(1, 0, 0, 0, 2, 0));
 
     static const uint8_t zeros[ORDERSHEET_JOBS];
     length = (size_t)sprintf(sheet, "%d\n", ORDERSHEET_JOBS);
@@ -436,18 +470,19 @@ static void fewest_gangs(void)
             order(u, v);
     sheet_listed("gangs, 64 jobs before 64", 64, gangs);
 
-    /* The deepest trees. Each even job before all later ones: 0 and 1 in gang 0, 2 and 3 in gang 1. */
+    /* The deepest trees. Each even job before all later ones: it is in gang 0, as job 127 is; the odd jobs stand after the groups beside them, 125 in gang 1, 123 in
+     * gang 2, 1 in gang 63. */
     start(ORDERSHEET_JOBS);
     for (unsigned u = 0; u < 128; u++) {
-        gangs[u] = (uint8_t)(u / 2);
+        gangs[u] = (uint8_t)(u % 2 == 0 ? 0 : (127 - u) / 2);
         for (unsigned v = u + 1; v < 128 && u % 2 == 0; v++)
             order(u, v);
     }
     sheet_listed("gangs, the deepest tree", 64, gangs);
-    /* Each odd job before all later ones: 0 in gang 0, 1 and 2 in gang 1, 3 and 4 in gang 2. */
+    /* Each odd job before all later ones: it is in gang 0, as job 126 is, but 127, beside 126, in gang 1; 124 in gang 2, 122 in gang 3, 0 in gang 64. */
     start(ORDERSHEET_JOBS);
     for (unsigned u = 0; u < 128; u++) {
-        gangs[u] = (uint8_t)((u + 1) / 2);
+        gangs[u] = (uint8_t)(u == 127 ? 1 : u % 2 == 1 || u == 126 ? 0 : (128 - u) / 2);
         for (unsigned v = u + 1; v < 128 && u % 2 == 1; v++)
             order(u, v);
     }
@@ -460,6 +495,10 @@ static void fewest_gangs(void)
             order(u, v);
     }
     sheet_listed("gangs, the deepest tree by first children", 64, gangs);
+
+    /* Each chain has one gang, and the next number is that of the job after it and of all that this job is before. */
+    halves(gangs);
+    sheet_listed("gangs, halves of halves", 6, gangs);
 }
 
 /* The sheet's record has this reason between two jobs, the other way round the same with rules 2 and 3 exchanged, and stays as it is. */
@@ -481,8 +520,11 @@ static void sheet_lacks(const char *name, const char *text, unsigned job)
     kept(name);
 }
 
-/* All pairs of jobs of the sheet's record, a tree as deep as 128 jobs go: each group is a job and the next group, or this and then the job. The lowest group over
- * two jobs is that of the smaller, which has all larger ones, or of the larger, which has all smaller ones: a chain if the job is odd, or if it is even. */
+/* All pairs of jobs of the sheet's record, a tree as deep as 128 jobs go: each group is a job and the next group. The lowest group over two jobs is that of the
+ * smaller, which has all larger ones, or of the larger, which has all smaller ones: a chain if the job is odd, or if it is even. Chains have the job first, or
+ * last; side groups have it last, since the next group has more jobs. With jobs first, ahead of a group are the groups of all smaller jobs, and the leaves of
+ * those that have chains; a side group's leaf comes after the leaves and groups of all larger jobs, 2 * (127 - u) - 1 nodes, but 126 and 127, the last two, stand
+ * by number. With jobs last, all groups are ahead of the leaves. */
 static void deepest(const char *name, int job_first, unsigned odd)
 {
     unsigned right = 0;
@@ -490,13 +532,18 @@ static void deepest(const char *name, int job_first, unsigned odd)
     for (unsigned u = 0; u < ORDERSHEET_JOBS; u++)
         for (unsigned v = 0; v < ORDERSHEET_JOBS; v++) {
             ordersheet_ruling ruling = reason(record, size, (uint16_t)u, (uint16_t)v), expected = {0, 1, 0, 1};
-            unsigned job = (u < v) == job_first ? u : v;
-            if (u == v) {
-                expected.position = !job_first ? ORDERSHEET_JOBS - 1 + u : u < ORDERSHEET_JOBS - 1 ? 2 * u + 1 : 2 * u;
-            } else {
+            unsigned job = (u < v) == job_first ? u : v, last = ORDERSHEET_JOBS - 1;
+            unsigned group = job_first ? job + (job + 1 - odd) / 2 : last - job;
+            if (u != v) {
                 expected.rule = job % 2 != odd ? 4 : u < v ? 2 : 3;
-                expected.position = job_first ? 2 * job : ORDERSHEET_JOBS - 1 - job;
+                expected.position = group;
                 expected.jobs = job_first ? ORDERSHEET_JOBS - job : job + 1;
+            } else if (!job_first) {
+                expected.position = last + u;
+            } else if (u == last) {
+                expected.position = 191; /* 127 groups, and the leaves of 63 chains and of job 126 */
+            } else {
+                expected.position = group + (u % 2 == odd || u == last - 1 ? 1 : 2 * (last - u));
             }
             right += memcmp(&ruling, &expected, sizeof ruling) == 0;
         }
@@ -541,16 +588,17 @@ static void reasons(void)
     sheet_rules("a reason, a side group", "3\n4\n6\n5\n", 0, 2, 4, 0, 3);
     sheet_rules("a reason, the last leaf", "3\n4\n6\n5\n", 2, 2, 1, 3, 1);
     sheet_lacks("a reason, three jobs and another", "3\n4\n6\n5\n", 3);
-    /* A side group at 0, in it a chain at 1 and job 4; in that chain job 5, a side group at 3 and job 2; in that one job 0, and a chain at 5 of jobs 3 and 1. */
+    /* A side group at 0, in it a chain at 1 and job 4; in that chain job 5, a side group at 3 and job 2; in that one a chain at 4 of jobs 3 and 1, and job 0. */
     static const char groups[] = "6\n7\n6\n1\n2\n17\n9\n5 3\n5 0\n3 1\n1 2\n0 2\n";
-    sheet_rules("a reason, the innermost chain", groups, 3, 1, 2, 5, 2);
+    sheet_rules("a reason, the innermost chain", groups, 3, 1, 2, 4, 2);
     sheet_rules("a reason, a job beside a chain", groups, 0, 1, 4, 3, 3);
     sheet_rules("a reason, the same", groups, 3, 0, 4, 3, 3);
     sheet_rules("a reason, the outer chain", groups, 5, 2, 2, 1, 5);
     sheet_rules("a reason, into groups", groups, 5, 1, 2, 1, 5);
     sheet_rules("a reason, out of groups", groups, 1, 2, 2, 1, 5);
     sheet_rules("a reason, beside all", groups, 3, 4, 4, 0, 6);
-    sheet_rules("a reason, a leaf in groups", groups, 1, 1, 1, 7, 1);
+    sheet_rules("a reason, a leaf in groups", groups, 1, 1, 1, 6, 1);
+    sheet_rules("a reason, the leaf after a chain", groups, 0, 0, 1, 7, 1);
     sheet_rules("a reason, the leaf after groups", groups, 4, 4, 1, 9, 1);
 
     start(ORDERSHEET_JOBS);
@@ -593,6 +641,47 @@ static void reasons(void)
         for (unsigned u = 0; u < v; u++)
             order(u, v);
     deepest("a reason, the deepest tree by first children", 0, 1);
+
+    /* A side group at 0, in it a chain at 1 of 65 jobs and one at 67; in this job 62 and a side group at 69, in it a chain at 70 of 32 jobs and one at 103; and so on
+     * side groups at 105, 124 and 135, in the last a chain at 136 of jobs 4, 3 and 2 and one at 140 of jobs 1 and 0. */
+    uint8_t chains[ORDERSHEET_JOBS];
+    halves(chains);
+    sheet_rules("a reason, halves of halves", sheet, 127, 0, 4, 0, 128);
+    sheet_rules("a reason, the first chain of halves", sheet, 127, 63, 2, 1, 65);
+    sheet_rules("a reason, the last leaf of the first chain of halves", sheet, 63, 63, 1, 66, 1);
+    sheet_rules("a reason, the second half", sheet, 62, 0, 2, 67, 63);
+    sheet_rules("a reason, the second side group of halves", sheet, 61, 29, 4, 69, 62);
+    sheet_rules("a reason, the second chain of halves", sheet, 30, 31, 3, 70, 32);
+    sheet_rules("a reason, the second half of the second half", sheet, 29, 14, 2, 103, 30);
+    sheet_rules("a reason, the third side group of halves", sheet, 14, 13, 4, 105, 29);
+    sheet_rules("a reason, the fourth side group of halves", sheet, 5, 12, 4, 124, 13);
+    sheet_rules("a reason, the last side group of halves", sheet, 4, 0, 4, 135, 5);
+    sheet_rules("a reason, the last chain of halves", sheet, 1, 0, 2, 140, 2);
+    sheet_rules("a reason, the last leaf of halves", sheet, 0, 0, 1, 142, 1);
+}
+
+/* Jobs 0, 1 and 2 of 7, 3 and 5 hours, 1 before 2: a side group, in it the chain of jobs 1 and 2, then job 0. By smallest job, as records once had it, job 0 is
+ * first: no record now. */
+static void largest_branch(void)
+{
+    static const uint8_t bytes[] = {0x05, 0x81, 0x80, 0x80, 0x80, 0x18, 0x10, 0x02, 0x80, 0x00, 0x38};
+    static const uint8_t former[] = {0x05, 0x81, 0x00, 0x00, 0x78, 0x08, 0x08, 0x01, 0x81, 0x00, 0x28};
+    static const char name[] = "the largest branch first";
+    length = (size_t)sprintf(sheet, "3\n7\n3\n5\n1 2\n");
+    accepted(name, sizeof bytes, 1, 2);
+    check(name, "the record has other bytes", memcmp(record, bytes, sizeof bytes) == 0);
+    runs(name, bytes, sizeof bytes, 8, JOBS(1, 2));
+    parted(name, bytes, sizeof bytes, HOURS(8, 7), JOBS(1, 0, 0));
+    rules(name, bytes, sizeof bytes, 1, 2, 2, 1, 2);
+    rules(name, bytes, sizeof bytes, 0, 1, 4, 0, 3);
+    rules(name, bytes, sizeof bytes, 0, 0, 1, 4, 1);
+
+    fill();
+    memcpy(record, former, sizeof former);
+    memcpy(before, record, sizeof record);
+    unread("the smallest job first", sizeof former, ORDERSHEET_REDUCED_AREA, 11);
+    unread("the smallest job first, and no area", sizeof former, 0, 11);
+    kept("the smallest job first");
 }
 
 /* A pair list and hours, and what is behind them; copies of both. */
@@ -810,6 +899,7 @@ int main(void)
     longest_runs();
     fewest_gangs();
     reasons();
+    largest_branch();
     one_more();
     any_length();
     printf("%u passed, %u failed\n", passed, failed);

@@ -4,7 +4,7 @@ use mathlib.Core.Path.{_≡_, refl}
 use mathlib.Core.List.{List, [], _∷_, map}
 use mathlib.Core.Option.{bind}
 use Rattle.poset.specs.Lists.{occurrences, upFrom, below, onlyIf}
-use Rattle.poset.specs.Tree.{leaves, least, alternates, ahead, canonical}
+use Rattle.poset.specs.Tree.{leaves, least, alternates, outranks, ahead, canonical}
 use Rattle.record.specs.Bits.{bits, bitsOf}
 use Rattle.record.specs.Decode.{readBits, kindOf, readForest, grouped, readTree, every, fills, spanning, beside, decode}
 use Rattle.analysis.specs.Answer.{answer}
@@ -26,6 +26,9 @@ examples =
     ∷ (9 ∷ 129 ∷ 129 ∷ 96 ∷ 64 ∷ 0 ∷ 12 ∷ 4 ∷ 0 ∷ 128 ∷ 128 ∷ 28 ∷ 12 ∷ 0 ∷ 129 ∷ 0 ∷ 16 ∷ [], told 0 12 (0 ∷ 2 ∷ 3 ∷ []))
     -- 0 (3) before 1 (2), and beside them 2 (1) before 3 (4): 5 hours each
     ∷ (7 ∷ 129 ∷ 128 ∷ 128 ∷ 0 ∷ 24 ∷ 8 ∷ 1 ∷ 64 ∷ 64 ∷ 128 ∷ 4 ∷ 12 ∷ 1 ∷ 0 ∷ [], told 0 5 (0 ∷ 1 ∷ []))
+    -- 1 (2) before 2 (3), and beside them 0 (5): the branch with most jobs is the first, and of the record by smallest job nothing is told
+    ∷ (5 ∷ 129 ∷ 128 ∷ 128 ∷ 128 ∷ 16 ∷ 16 ∷ 1 ∷ 128 ∷ 0 ∷ 40 ∷ [], told 0 5 (1 ∷ 2 ∷ []))
+    ∷ (5 ∷ 129 ∷ 0 ∷ 0 ∷ 88 ∷ 8 ∷ 8 ∷ 1 ∷ 1 ∷ 0 ∷ 24 ∷ [], told 11 0 ([]))
     -- three jobs of 5 hours side by side
     ∷ (5 ∷ 130 ∷ 0 ∷ 0 ∷ 80 ∷ 16 ∷ 5 ∷ 2 ∷ 0 ∷ 80 ∷ [], told 0 5 (0 ∷ []))
     -- four jobs of 0 hours one after the other
@@ -36,6 +39,6 @@ examples =
     ∷ []
 
 pub shown-runs : map (λ (e : Example). runOutcome (e .0)) examples ≡ map (λ (e : Example). e .1) examples
-unfolding bind occurrences upFrom below onlyIf leaves least alternates ahead canonical
+unfolding bind occurrences upFrom below onlyIf leaves least alternates outranks ahead canonical
     bits bitsOf readBits kindOf readForest grouped readTree every fills spanning beside decode joinedRuns longest runOutcome
 shown-runs = refl

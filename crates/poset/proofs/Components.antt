@@ -1,9 +1,9 @@
--- The connected components of a list of jobs: joined within, apart from each other, and the first led by the first job.
-use Prim.Native.Nat.{ℕ, zero, suc, _<_}
-use mathlib.Core.Path.{_≡_, refl, sym, ap, subst, _∙_}
+-- The connected components of a list of jobs: joined within, apart from each other.
+use Prim.Native.Nat.{ℕ, _<_}
+use mathlib.Core.Path.{_≡_, refl, sym, subst, _∙_}
 use mathlib.Core.List.{List, [], _∷_, _++_, List·Memᴰ, List·Memᴰ·head, List·Memᴰ·tail, List·Memᴰ·cases-cons, List·Memᴰ·not-nil}
 use mathlib.Core.List.{Memᴰ·append-left, Memᴰ·append-right, List·Memᴰ·append-cases, List·Memᴰ·eq-of-singleton}
-use mathlib.Core.Bool.{Bool, true, false}
+use mathlib.Core.Bool.{true, false}
 use mathlib.Core.Logic.{_⊎_, inl, inr, ⊎-elim}
 use native.Mathlib.Omega.{arith}
 use Rattle.poset.specs.Lists.{exists}
@@ -12,7 +12,7 @@ use Rattle.poset.specs.Tree.{Kind}
 use Rattle.poset.specs.Decompose.{Block, gather, components}
 use Rattle.poset.proofs.Laws.{decided, any-found, any-miss}
 use Rattle.poset.proofs.Standing.{near, other, near-sym, near-either}
-use Rattle.poset.proofs.Linked.{Shared, Linked, single-linked}
+use Rattle.poset.proofs.Linked.{Shared, Linked}
 
 -- the jobs of a block, and of a list of blocks
 
@@ -28,13 +28,12 @@ abbrev pub Sorted : List ℕ → Type 0
 Sorted [] = Unit {0}
 Sorted (x ∷ xs) = ((v : ℕ) → Of xs v → x < v) × Sorted xs
 
--- a block and those after it: joined, apart from the others, and with a job below theirs
+-- a block and those after it: joined, with a job, and apart from the others
 pub record Part (k : Kind) (r : Rel) (b : Block) (bs : List Block) : Type 1 where
   pub linked : Linked (near k r) (Of b)
   pub far : (u v : ℕ) → Of b u → OfBlocks bs v → near (other k) r u v ≡ true
   pub leader : ℕ
   pub leads : Of b leader
-  pub below-rest : (v : ℕ) → OfBlocks bs v → leader < v
 
 abbrev pub Parts : Kind → Rel → List Block → Type 1
 Parts k r [] = Unit {1}
@@ -126,7 +125,6 @@ module _ (k : Kind) (r : Rel) (x : ℕ) where
               far = λ u v p q. part .far u v p (ih .left v q);
               leader = part .leader;
               leads = part .leads;
-              below-rest = λ v p. part .below-rest v (ih .left v p);
             },
             ih .parts,
           );
@@ -172,7 +170,6 @@ components-of k r (x ∷ xs) s =
           far = g .far;
           leader = x;
           leads = g .has;
-          below-rest = λ v p. s .0 v (ih .from v (g .left v p));
         },
         g .parts,
       );

@@ -69,6 +69,21 @@ subset-sum w (x ∷ xs) ys d i =
     here : cond (member x xs) (w x) 0 + w x ≤ cond (member x (x ∷ xs)) (w x) 0
     here = rw (any-yes (eqb x) x xs (eqb-same x), false-unless (member x xs) (λ h. distinct-head x xs d (member-mem x xs h))) (omega arith)
 
+-- so two lists without repeats that have the same elements are as long
+pub same-length : (xs ys : List ℕ) → Distinct xs → Distinct ys → ((u : ℕ) → List·Memᴰ u xs → List·Memᴰ u ys)
+    → ((u : ℕ) → List·Memᴰ u ys → List·Memᴰ u xs) → length xs ≡ length ys
+same-length xs ys d e to from = omega (arith, no-longer xs ys d to, no-longer ys xs e from)
+  where
+    no-longer : (ks ls : List ℕ) → Distinct ks → ((u : ℕ) → List·Memᴰ u ks → List·Memᴰ u ls) → length ks ≤ length ls
+    no-longer ks ls f i =
+        omega (
+          arith,
+          sum-const 1 ks,
+          sum-const 1 ls,
+          subset-sum (λ u. 1) ks ls f i,
+          sum-le (λ u. cond (member u ks) 1 0) (λ u. 1) ls (λ u m. cond-le (member u ks) 1),
+        )
+
 -- pigeons: different elements, no two of which f sends to one number below k, are at most k
 
 alone : (xs : List ℕ) → Distinct xs → ((u v : ℕ) → List·Memᴰ u xs → List·Memᴰ v xs → u ≡ v) → length xs ≤ 1

@@ -1,19 +1,25 @@
--- The blocks that a group is made of: each joined and sorted, those of a series in their order, those of a parallel group by their smallest jobs.
+-- The blocks that a group is made of: each joined and sorted, those of a series in their order, those of a parallel group by rank.
 use Prim.Native.Nat.{ℕ, _<_}
-use mathlib.Core.Path.{_≡_, refl, sym, ap, subst, _∙_}
-use mathlib.Core.List.{List, [], _∷_, map, List·Memᴰ·head, List·Memᴰ·tail, List·Memᴰ·cases-cons, List·Memᴰ·not-nil}
+use mathlib.Core.Path.{_≡_, refl}
+use mathlib.Core.List.{List, [], _∷_, List·Memᴰ·head, List·Memᴰ·not-nil}
 use mathlib.Core.Bool.{Bool, true, false}
 use mathlib.Core.Logic.{_⊎_, inl, inr, ⊎-elim}
 use lib.ListN.{length, getD}
 use Rattle.poset.specs.Lists.{keep, member}
-use Rattle.poset.specs.Order.{Rel, Strict, comparable, incomparable}
+use Rattle.poset.specs.Order.{Rel, Strict}
 use Rattle.poset.specs.Tree.{Kind, series, parallel}
-use Rattle.poset.specs.Decompose.{Block, components, placed, inSeries, sorted, parallelParts, seriesParts}
+use Rattle.poset.specs.Decompose.{Block, components, placed, arranged, sorted, comesFirst, parts}
 use Rattle.poset.proofs.Laws.{decided, clash, false-unless, member-mem, mem-member, keep-yes, keep-not, keep-mem, mem-keep}
 use Rattle.poset.proofs.Sums.{length-keep-lt}
-use Rattle.poset.proofs.Standing.{near, other, Stands, near-sym, free, forced}
+use Rattle.poset.proofs.Standing.{near, other, Free, Stands, near-sym, free, forced}
+use Rattle.poset.proofs.Shape.{Same}
+use Rattle.poset.proofs.Ranks.{first-transitive, first-total}
 use Rattle.poset.proofs.Linked.{Linked, linked-within}
-use Rattle.poset.proofs.Components.{Of, OfBlocks, Sorted, Part, Parts, ComponentsOf, components-of}
+use Rattle.poset.proofs.Components.{Of, OfBlocks, Sorted, Parts, components-of}
+
+pub head-in : (b : Block) (u : ℕ) → Of b u → Of b (getD b 0 0)
+head-in [] u p = absurd (List·Memᴰ·not-nil p)
+head-in (x ∷ xs) u p = List·Memᴰ·head refl
 
 -- lists of blocks
 
@@ -26,58 +32,107 @@ abbrev pub Laid : Kind → Rel → List Block → Type 0
 Laid k r [] = Unit {0}
 Laid k r (b ∷ bs) = ((u v : ℕ) → Of b u → OfBlocks bs v → Stands k r u v) × Laid k r bs
 
--- each block has a job below those of later blocks
-abbrev pub Led : List Block → Type 0
-Led [] = Unit {0}
-Led (b ∷ bs) = ((u : ℕ) × Of b u × ((v : ℕ) → OfBlocks bs v → u < v)) × Led bs
+-- each two blocks, in this order, stand so
+abbrev pub Pairs {ℓ} : (Block → Block → Type ℓ) → List Block → Type ℓ
+Pairs P [] = Unit {ℓ}
+Pairs P (b ∷ bs) = Each (P b) bs × Pairs P bs
 
-abbrev pub Ordered : Kind → List Block → Type 0
-Ordered series bs = Unit {0}
-Ordered parallel bs = Led bs
+-- each block of a parallel group comes ahead of the next one
+abbrev pub Before : Kind → Rel → Block → Block → Type 0
+Before series r b c = Unit {0}
+Before parallel r b c = comesFirst parallel r b c ≡ true
+
+abbrev pub Ordered : Kind → Rel → List Block → Type 0
+Ordered k r [] = Unit {0}
+Ordered k r (b ∷ []) = Unit {0}
+Ordered k r (b ∷ c ∷ bs) = Before k r b c × Ordered k r (c ∷ bs)
 
 -- a block in its place
 
-placed-yes : (r : Rel) (b c : Block) (cs : List Block) → r (getD b 0 0) (getD c 0 0) ≡ true → placed r b (c ∷ cs) ≡ b ∷ c ∷ cs
-unfolding placed
-placed-yes r b c cs e = rw (e, placed)
-
-placed-not : (r : Rel) (b c : Block) (cs : List Block) → r (getD b 0 0) (getD c 0 0) ≡ false → placed r b (c ∷ cs) ≡ c ∷ placed r b cs
-unfolding placed
-placed-not r b c cs e = rw (e, placed)
-
--- it is one block more, wherever its place is
-module _ (r : Rel) (b : Block) where
-  placed-each {ℓ} : (P : Block → Type ℓ) (cs : List Block) → P b → Each P cs → Each P (placed r b cs)
+module _ (first : Block → Block → Bool) where
+  pub placed-yes : (b c : Block) (cs : List Block) → first b c ≡ true → placed first b (c ∷ cs) ≡ b ∷ c ∷ cs
   unfolding placed
-  placed-each P [] p ps = (p, tt)
-  placed-each P (c ∷ cs) p ps =
-      ⊎-elim
-      (λ e. rw (placed-yes r b c cs e) (p, ps))
-      (λ e. rw (placed-not r b c cs e) (ps .0, placed-each P cs p (ps .1)))
-      (decided (r (getD b 0 0) (getD c 0 0)))
+  placed-yes b c cs e = rw (e, placed)
 
-  placed-from : (cs : List Block) (u : ℕ) → OfBlocks (placed r b cs) u → Of b u ⊎ OfBlocks cs u
+  pub placed-not : (b c : Block) (cs : List Block) → first b c ≡ false → placed first b (c ∷ cs) ≡ c ∷ placed first b cs
   unfolding placed
-  placed-from [] u p = p
-  placed-from (c ∷ cs) u p =
-      ⊎-elim
-      (λ e. rw (placed-yes r b c cs e) at p)
-      (λ e. ⊎-elim (λ m. inr (inl m)) (λ m. ⊎-elim (λ a. inl a) (λ a. inr (inr a)) (placed-from cs u m)) (rw (placed-not r b c cs e) at p))
-      (decided (r (getD b 0 0) (getD c 0 0)))
+  placed-not b c cs e = rw (e, placed)
 
-  placed-onto : (cs : List Block) (u : ℕ) → Of b u ⊎ OfBlocks cs u → OfBlocks (placed r b cs) u
+  -- it is one block more, wherever its place is
+  pub placed-each {ℓ} : (P : Block → Type ℓ) (b : Block) (cs : List Block) → P b → Each P cs → Each P (placed first b cs)
   unfolding placed
-  placed-onto [] u p = p
-  placed-onto (c ∷ cs) u p =
+  placed-each P b [] p ps = (p, tt)
+  placed-each P b (c ∷ cs) p ps =
       ⊎-elim
-      (λ e. rw (placed-yes r b c cs e) p)
-      (λ e. rw (placed-not r b c cs e) (later p (λ q. placed-onto cs u q)))
-      (decided (r (getD b 0 0) (getD c 0 0)))
+      (λ e. rw (placed-yes b c cs e) (p, ps))
+      (λ e. rw (placed-not b c cs e) (ps .0, placed-each P b cs p (ps .1)))
+      (decided (first b c))
+
+  placed-same : (b : Block) (cs : List Block) → Same (OfBlocks (placed first b cs)) (OfBlocks (b ∷ cs))
+  unfolding placed
+  placed-same b [] u = (λ p. p, λ p. p)
+  placed-same b (c ∷ cs) u =
+      ⊎-elim (λ e. rw (placed-yes b c cs e) (λ p. p, λ p. p)) (λ e. rw (placed-not b c cs e) (turned (placed-same b cs u))) (decided (first b c))
     where
-      later : Of b u ⊎ (Of c u ⊎ OfBlocks cs u) → (Of b u ⊎ OfBlocks cs u → OfBlocks (placed r b cs) u) → Of c u ⊎ OfBlocks (placed r b cs) u
-      later (inl m) ih = inr (ih (inl m))
-      later (inr (inl m)) ih = inl m
-      later (inr (inr m)) ih = inr (ih (inr m))
+      turned : {A B C D : Type 0} → (D → A ⊎ C) × (A ⊎ C → D) → (B ⊎ D → A ⊎ (B ⊎ C)) × (A ⊎ (B ⊎ C) → B ⊎ D)
+      turned ih = (
+        ⊎-elim (λ p. inr (inl p)) (λ p. ⊎-elim (λ q. inl q) (λ q. inr (inr q)) (ih .0 p)),
+        ⊎-elim (λ p. inr (ih .1 (inl p))) (⊎-elim (λ p. inl p) (λ p. inr (ih .1 (inr p)))),
+      )
+
+  pub arranged-each {ℓ} : (P : Block → Type ℓ) (bs : List Block) → Each P bs → Each P (arranged first bs)
+  unfolding arranged
+  arranged-each P [] ps = tt
+  arranged-each P (b ∷ bs) ps = placed-each P b (arranged first bs) (ps .0) (arranged-each P bs (ps .1))
+
+  pub arranged-same : (bs : List Block) → Same (OfBlocks (arranged first bs)) (OfBlocks bs)
+  unfolding arranged
+  arranged-same [] u = (λ p. p, λ p. p)
+  arranged-same (b ∷ bs) u =
+      let here = placed-same b (arranged first bs) u in
+      let rest = arranged-same bs u in (
+        λ p. ⊎-elim (λ q. inl q) (λ q. inr (rest .0 q)) (here .0 p),
+        λ p. here .1 (⊎-elim (λ q. inl q) (λ q. inr (rest .1 q)) p),
+      )
+
+  -- blocks that meet come to stand as the test says
+  module _ {ℓ} (Meets : Block → Block → Type ℓ) (Stand : Block → Block → Type 0)
+      (yes : (b c : Block) → Meets b c → first b c ≡ true → Stand b c) (not : (b c : Block) → Meets b c → first b c ≡ false → Stand c b)
+      (step : (b c d : Block) → Meets b c → Meets b d → Stand b c → Stand c d → Stand b d) where
+    steps : (b c : Block) (ds : List Block) → Meets b c → Stand b c → Each (Meets b) ds → Each (Stand c) ds → Each (Stand b) ds
+    steps b c [] m s ms ss = tt
+    steps b c (d ∷ ds) m s ms ss = (step b c d m (ms .0) s (ss .0), steps b c ds m s (ms .1) (ss .1))
+
+    placed-pairs : (b : Block) (cs : List Block) → Each (Meets b) cs → Pairs Stand cs → Pairs Stand (placed first b cs)
+    unfolding placed
+    placed-pairs b [] ms ps = (tt, tt)
+    placed-pairs b (c ∷ cs) ms ps =
+        ⊎-elim
+        (λ e. let s = yes b c (ms .0) e in rw (placed-yes b c cs e) ((s, steps b c cs (ms .0) s (ms .1) (ps .0)), ps))
+        (λ e. rw (placed-not b c cs e) (placed-each (Stand c) b cs (not b c (ms .0) e) (ps .0), placed-pairs b cs (ms .1) (ps .1)))
+        (decided (first b c))
+
+    pub arranged-pairs : (bs : List Block) → Pairs Meets bs → Pairs Stand (arranged first bs)
+    unfolding arranged
+    arranged-pairs [] ms = tt
+    arranged-pairs (b ∷ bs) ms = placed-pairs b (arranged first bs) (arranged-each (Meets b) bs (ms .0)) (arranged-pairs bs (ms .1))
+
+-- how two blocks of a group stand
+abbrev Follows : Kind → Rel → Block → Block → Type 0
+Follows k r b c = ((u v : ℕ) → Of b u → Of c v → Stands k r u v) × Before k r b c
+
+pairs-laid : (k : Kind) (r : Rel) (bs : List Block) → Pairs (Follows k r) bs → Laid k r bs
+pairs-laid k r [] ps = tt
+pairs-laid k r (b ∷ bs) ps = (across bs (ps .0), pairs-laid k r bs (ps .1))
+  where
+    across : (cs : List Block) → Each (Follows k r b) cs → (u v : ℕ) → Of b u → OfBlocks cs v → Stands k r u v
+    across [] fs u v p q = absurd q
+    across (c ∷ cs) fs u v p q = ⊎-elim (λ m. fs .0 .0 u v p m) (λ m. across cs (fs .1) u v p m) q
+
+pairs-ordered : (k : Kind) (r : Rel) (bs : List Block) → Pairs (Follows k r) bs → Ordered k r bs
+pairs-ordered k r [] ps = tt
+pairs-ordered k r (b ∷ []) ps = tt
+pairs-ordered k r (b ∷ c ∷ bs) ps = (ps .0 .0 .1, pairs-ordered k r (c ∷ bs) (ps .1))
 
 module _ (n : ℕ) (r : Rel) (strict : Strict n r) where
   pub asymmetric : (u v : ℕ) → u < n → v < n → r u v ≡ true → r v u ≡ false
@@ -100,104 +155,79 @@ module _ (n : ℕ) (r : Rel) (strict : Strict n r) where
         forced r v w (tied v q)
         (λ vw. clash (strict .transitive v w u (small v q) lw (small u p) vw wu) (free r u v h .back)))
 
-  -- a block of a series, with its first job
-  record Joined (b : Block) : Type 1 where
-    linked : Linked (near series r) (Of b)
-    first : Of b (getD b 0 0)
-    small : (u : ℕ) → Of b u → u < n
+  -- two blocks of one kind of group, each with its first job
+  pub record Joined (k : Kind) (b : Block) : Type 1 where
+    pub linked : Linked (near k r) (Of b)
+    pub first : Of b (getD b 0 0)
+    pub small : (u : ℕ) → Of b u → u < n
 
-  abbrev Tied : Block → Block → Type 0
-  Tied b c = (u v : ℕ) → Of b u → Of c v → near parallel r u v ≡ true
+  pub record Meet (k : Kind) (b c : Block) : Type 1 where
+    pub one : Joined k b
+    pub two : Joined k c
+    pub tied : (u v : ℕ) → Of b u → Of c v → near (other k) r u v ≡ true
 
-  -- what the first jobs of two blocks say, all of them say
-  one-way : (b c : Block) → Joined b → Joined c → Tied b c → r (getD b 0 0) (getD c 0 0) ≡ true → (u v : ℕ) → Of b u → Of c v → Stands series r u v
-  one-way b c jb jc t h u v p q =
-      let lv = jc .small v q in
-      let lu = jb .small u p in
-      let c₀ = getD c 0 0 in
-      let to-c : (a : ℕ) → Of b a → near parallel r a c₀ ≡ true = λ a m. t a c₀ m (jc .first) in
-      let uc = all-before (Of b) (jb .small) (jb .linked) c₀ (jc .small _ (jc .first)) to-c (getD b 0 0) u (jb .first) p h in
-      let to-u : (a : ℕ) → Of c a → near parallel r a u ≡ true = λ a m. near-sym parallel r u a (t u a p m) in
-      let uv = all-after (Of c) (jc .small) (jc .linked) u lu to-u c₀ v (jc .first) q uc in
-      (uv, asymmetric u v lu lv uv)
+  turn : (k : Kind) (b c : Block) → Meet k b c → Meet k c b
+  turn k b c m = record { one = m .two; two = m .one; tied = λ u v p q. near-sym (other k) r v u (m .tied v u q p) }
 
-  or-other : (b c : Block) → Joined b → Joined c → Tied b c → r (getD b 0 0) (getD c 0 0) ≡ false → (u v : ℕ) → Of c u → Of b v → Stands series r u v
-  or-other b c jb jc t h =
-      one-way c b jc jb (λ u v p q. near-sym parallel r v u (t v u q p))
-      (forced r (getD b 0 0) (getD c 0 0) (t _ _ (jb .first) (jc .first)) (λ e. clash e h))
-
-  each-small : (b : Block) (cs : List Block) → Each (λ c. Joined c × Tied b c) cs → (v : ℕ) → OfBlocks cs v → v < n
-  each-small b [] js v q = absurd q
-  each-small b (c ∷ cs) js v (inl q) = js .0 .0 .small v q
-  each-small b (c ∷ cs) js v (inr q) = each-small b cs (js .1) v q
-
-  placed-laid : (b : Block) → Joined b → (cs : List Block) → Each (λ c. Joined c × Tied b c) cs → Laid series r cs → Laid series r (placed r b cs)
-  unfolding placed
-  placed-laid b jb [] js l = ((λ u v p q. absurd q), tt)
-  placed-laid b jb (c ∷ cs) js l =
-      ⊎-elim
-      (λ e. rw (placed-yes r b c cs e) (ahead e, l))
-      (λ e. rw (placed-not r b c cs e) (behind e, placed-laid b jb cs (js .1) (l .1)))
-      (decided (r (getD b 0 0) (getD c 0 0)))
+  -- what the first jobs of two blocks of a series say, all of them say
+  series-yes : (b c : Block) → Meet series b c → comesFirst series r b c ≡ true → Follows series r b c
+  unfolding comesFirst
+  series-yes b c m h = (each, tt)
     where
-      jc : Joined c
-      jc = js .0 .0
+      c₀ : ℕ
+      c₀ = getD c 0 0
 
-      ahead : r (getD b 0 0) (getD c 0 0) ≡ true → (u v : ℕ) → Of b u → Of c v ⊎ OfBlocks cs v → Stands series r u v
-      ahead e u v p (inl q) = one-way b c jb jc (js .0 .1) e u v p q
-      ahead e u v p (inr q) =
-          let uc = one-way b c jb jc (js .0 .1) e u (getD c 0 0) p (jc .first) .0 in
-          let cv = l .0 (getD c 0 0) v (jc .first) q .0 in
+      each : (u v : ℕ) → Of b u → Of c v → Stands series r u v
+      each u v p q =
+          let jb = m .one in
+          let jc = m .two in
           let lu = jb .small u p in
-          let lv = each-small b cs (js .1) v q in
-          let uv = strict .transitive u (getD c 0 0) v lu (jc .small _ (jc .first)) lv uc cv in
+          let uc = all-before (Of b) (jb .small) (jb .linked) c₀ (jc .small _ (jc .first)) (λ a i. m .tied a c₀ i (jc .first)) (getD b 0 0) u (jb .first) p h in
+          let uv = all-after (Of c) (jc .small) (jc .linked) u lu (λ a i. near-sym parallel r u a (m .tied u a p i)) c₀ v (jc .first) q uc in
+          (uv, asymmetric u v lu (jc .small v q) uv)
+
+  series-not : (b c : Block) → Meet series b c → comesFirst series r b c ≡ false → Follows series r c b
+  unfolding comesFirst
+  series-not b c m h =
+      series-yes c b (turn series b c m)
+      (forced r (getD b 0 0) (getD c 0 0) (m .tied _ _ (m .one .first) (m .two .first)) (λ e. clash e h))
+
+  series-step : (b c d : Block) → Meet series b c → Meet series b d → Follows series r b c → Follows series r c d → Follows series r b d
+  series-step b c d m m′ s s′ = (each, tt)
+    where
+      each : (u v : ℕ) → Of b u → Of d v → Stands series r u v
+      each u v p q =
+          let jc = m .two in
+          let lu = m .one .small u p in
+          let lv = m′ .two .small v q in
+          let c₀ = getD c 0 0 in
+          let uv = strict .transitive u c₀ v lu (jc .small _ (jc .first)) lv (s .0 u c₀ p (jc .first) .0) (s′ .0 c₀ v (jc .first) q .0) in
           (uv, asymmetric u v lu lv uv)
 
-      behind : r (getD b 0 0) (getD c 0 0) ≡ false → (u v : ℕ) → Of c u → OfBlocks (placed r b cs) v → Stands series r u v
-      behind e u v p q =
-          ⊎-elim (λ m. or-other b c jb jc (js .0 .1) e u v p m) (λ m. l .0 u v p m) (placed-from r b cs v q)
+  -- blocks side by side
+  apart : (b c : Block) → Meet parallel b c → getD b 0 0 ≡ getD c 0 0 → ⊥
+  apart b c m = free r _ _ (m .tied _ _ (m .one .first) (m .two .first)) .differ
 
-  -- blocks in the order of their series
+  free-all : (b c : Block) → Meet parallel b c → (u v : ℕ) → Of b u → Of c v → Free r u v
+  free-all b c m u v p q = free r u v (m .tied u v p q)
 
-  head-in : (b : Block) (u : ℕ) → Of b u → Of b (getD b 0 0)
-  head-in [] u p = absurd (List·Memᴰ·not-nil p)
-  head-in (x ∷ xs) u p = List·Memᴰ·head refl
+  -- by either kind
+  meet-yes : (k : Kind) (b c : Block) → Meet k b c → comesFirst k r b c ≡ true → Follows k r b c
+  meet-yes series b c m h = series-yes b c m h
+  meet-yes parallel b c m h = (free-all b c m, h)
 
-  joined-of : (b : Block) (bs : List Block) → Part series r b bs → ((u : ℕ) → Of b u → u < n) → Joined b
-  joined-of b bs part small = record { linked = part .linked; first = head-in b (part .leader) (part .leads); small = small }
+  meet-not : (k : Kind) (b c : Block) → Meet k b c → comesFirst k r b c ≡ false → Follows k r c b
+  meet-not series b c m h = series-not b c m h
+  meet-not parallel b c m h = (free-all c b (turn parallel b c m), first-total r b c (apart b c m) h)
 
-  each-tied : (b : Block) (cs : List Block) → ((u v : ℕ) → Of b u → OfBlocks cs v → near parallel r u v ≡ true) → Parts series r cs
-      → ((u : ℕ) → OfBlocks cs u → u < n) → Each (λ c. Joined c × Tied b c) cs
-  each-tied b [] far ps small = tt
-  each-tied b (c ∷ cs) far ps small = (
-    (joined-of c cs (ps .0) (λ u m. small u (inl m)), λ u v p q. far u v p (inl q)),
-    each-tied b cs (λ u v p q. far u v p (inr q)) (ps .1) (λ u m. small u (inr m)),
-  )
+  meet-step : (k : Kind) (b c d : Block) → Meet k b c → Meet k b d → Follows k r b c → Follows k r c d → Follows k r b d
+  meet-step series b c d m m′ s s′ = series-step b c d m m′ s s′
+  meet-step parallel b c d m m′ s s′ = (free-all b d m′, first-transitive r b c d (s .1) (s′ .1))
 
-inSeries-each {ℓ} : (r : Rel) (P : Block → Type ℓ) (bs : List Block) → Each P bs → Each P (inSeries r bs)
-unfolding inSeries
-inSeries-each r P [] ps = tt
-inSeries-each r P (b ∷ bs) ps = placed-each r b P (inSeries r bs) (ps .0) (inSeries-each r P bs (ps .1))
-
-inSeries-from : (r : Rel) (bs : List Block) (u : ℕ) → OfBlocks (inSeries r bs) u → OfBlocks bs u
-unfolding inSeries
-inSeries-from r [] u p = p
-inSeries-from r (b ∷ bs) u p = ⊎-elim (λ m. inl m) (λ m. inr (inSeries-from r bs u m)) (placed-from r b (inSeries r bs) u p)
-
-inSeries-onto : (r : Rel) (bs : List Block) (u : ℕ) → OfBlocks bs u → OfBlocks (inSeries r bs) u
-unfolding inSeries
-inSeries-onto r [] u p = p
-inSeries-onto r (b ∷ bs) u p = placed-onto r b (inSeries r bs) u (⊎-elim (λ m. inl m) (λ m. inr (inSeries-onto r bs u m)) p)
-
-inSeries-laid : (n : ℕ) (r : Rel) → Strict n r → (bs : List Block) → Parts series r bs → ((u : ℕ) → OfBlocks bs u → u < n)
-    → Laid series r (inSeries r bs)
-unfolding inSeries
-inSeries-laid n r strict [] ps small = tt
-inSeries-laid n r strict (b ∷ bs) ps small =
-    let later : (u : ℕ) → OfBlocks bs u → u < n = λ u m. small u (inr m) in
-    placed-laid n r strict b (joined-of n r strict b bs (ps .0) (λ u m. small u (inl m))) (inSeries r bs)
-    (inSeries-each r _ bs (each-tied n r strict b bs (ps .0 .far) (ps .1) later))
-    (inSeries-laid n r strict bs (ps .1) later)
+  pub meet-laid : (k : Kind) (bs : List Block) → Pairs (Meet k) bs → Laid k r (arranged (comesFirst k r) bs) × Ordered k r (arranged (comesFirst k r) bs)
+  meet-laid k bs ms =
+      let ps = arranged-pairs (comesFirst k r) (Meet k) (Follows k r) (meet-yes k) (meet-not k) (meet-step k) bs ms in
+      (pairs-laid k r (arranged (comesFirst k r) bs) ps, pairs-ordered k r (arranged (comesFirst k r) bs) ps)
 
 -- blocks in the order of the whole list
 
@@ -229,12 +259,6 @@ unfolding sorted
 sorted-onto js [] u q p = p
 sorted-onto js (b ∷ bs) u q p = ⊎-elim (λ m. inl (inOrder-onto js b u m q)) (λ m. inr (sorted-onto js bs u q m)) p
 
-sorted-laid : (k : Kind) (r : Rel) (js : List ℕ) (bs : List Block) → Laid k r bs → Laid k r (sorted js bs)
-unfolding sorted
-sorted-laid k r js [] l = tt
-sorted-laid k r js (b ∷ bs) l =
-    ((λ u v p q. l .0 u v (inOrder-from js b u p .0) (sorted-from js bs v q)), sorted-laid k r js bs (l .1))
-
 -- the blocks of a group, ready to be made into trees
 
 -- a joined block with a job, within js
@@ -252,7 +276,7 @@ pub record Ready (k : Kind) (r : Rel) (js : List ℕ) (b : Block) : Type 1 where
 pub record Blocks (k : Kind) (r : Rel) (js : List ℕ) (bs : List Block) : Type 1 where
   pub laid : Laid k r bs
   pub ready : Each (Ready k r js) bs
-  pub ordered : Ordered k bs
+  pub ordered : Ordered k r bs
   pub from : (u : ℕ) → OfBlocks bs u → Of js u
   pub onto : (u : ℕ) → Of js u → OfBlocks bs u
 
@@ -282,46 +306,41 @@ raw-ready k r js s (b ∷ bs) rs =
       raw-ready k r js s bs (rs .1),
     )
 
-parts-laid : (r : Rel) (bs : List Block) → Parts parallel r bs → Laid parallel r bs
-parts-laid r [] ps = tt
-parts-laid r (b ∷ bs) ps = ((λ u v p q. free r u v (ps .0 .far u v p q)), parts-laid r bs (ps .1))
+module _ (n : ℕ) (r : Rel) (strict : Strict n r) (k : Kind) (js : List ℕ) (s : Sorted js) (small : (u : ℕ) → Of js u → u < n) where
+  ready-joined : (b : Block) → Ready k r js b → Joined n r strict k b
+  ready-joined b x =
+      record { linked = x .raw .linked; first = head-in b (x .raw .someJob) (x .raw .has); small = λ u m. small u (x .raw .within u m) }
 
-parts-led : (r : Rel) (js : List ℕ) (bs : List Block) → Parts parallel r bs → ((u : ℕ) → OfBlocks bs u → Of js u) → Led (sorted js bs)
-unfolding sorted
-parts-led r js [] ps from = tt
-parts-led r js (b ∷ bs) ps from =
-    let part = ps .0 in (
-      (
-        part .leader,
-        inOrder-onto js b (part .leader) (part .leads) (from (part .leader) (inl (part .leads))),
-        λ v q. part .below-rest v (sorted-from js bs v q),
-      ),
-      parts-led r js bs (ps .1) (λ u m. from u (inr m)),
-    )
+  parts-meet : (bs : List Block) → Parts k r bs → Each (Ready k r js) (sorted js bs) → Pairs (Meet n r strict k) (sorted js bs)
+  unfolding sorted
+  parts-meet [] ps rs = tt
+  parts-meet (b ∷ bs) ps rs = (meets bs (ps .0 .far) (rs .1), parts-meet bs (ps .1) (rs .1))
+    where
+      meets : (cs : List Block) → ((u v : ℕ) → Of b u → OfBlocks cs v → near (other k) r u v ≡ true) → Each (Ready k r js) (sorted js cs)
+          → Each (Meet n r strict k (inOrder js b)) (sorted js cs)
+      meets [] far rs′ = tt
+      meets (c ∷ cs) far rs′ = (
+        record {
+          one = ready-joined (inOrder js b) (rs .0);
+          two = ready-joined (inOrder js c) (rs′ .0);
+          tied = λ u v p q. far u v (inOrder-from js b u p .0) (inl (inOrder-from js c v q .0));
+        },
+        meets cs (λ u v p q. far u v p (inr q)) (rs′ .1),
+      )
 
-pub parallel-blocks : (r : Rel) (js : List ℕ) → Sorted js → Blocks parallel r js (parallelParts r js)
-unfolding parallelParts
-parallel-blocks r js s =
-    let c = components-of parallel r js s in
-    let bs = components (comparable r) js in
-    record {
-      laid = sorted-laid parallel r js bs (parts-laid r bs (c .parts));
-      ready = raw-ready parallel r js s bs (parts-raw parallel r js bs (c .parts) (c .from));
-      ordered = parts-led r js bs (c .parts) (c .from);
-      from = λ u p. c .from u (sorted-from js bs u p);
-      onto = λ u p. sorted-onto js bs u p (c .onto u p);
-    }
-
-pub series-blocks : (n : ℕ) (r : Rel) → Strict n r → (js : List ℕ) → Sorted js → ((u : ℕ) → Of js u → u < n) → Blocks series r js (seriesParts r js)
-unfolding seriesParts
-series-blocks n r strict js s small =
-    let c = components-of series r js s in
-    let bs = components (incomparable r) js in
-    let line = inSeries r bs in
-    record {
-      laid = sorted-laid series r js line (inSeries-laid n r strict bs (c .parts) (λ u m. small u (c .from u m)));
-      ready = raw-ready series r js s line (inSeries-each r _ bs (parts-raw series r js bs (c .parts) (c .from)));
-      ordered = tt;
-      from = λ u p. c .from u (inSeries-from r bs u (sorted-from js line u p));
-      onto = λ u p. sorted-onto js line u p (inSeries-onto r bs u (c .onto u p));
-    }
+  pub group-blocks : Blocks k r js (parts k r js)
+  unfolding parts
+  group-blocks =
+      let c = components-of k r js s in
+      let bs = components (near k r) js in
+      let first = comesFirst k r in
+      let ready = raw-ready k r js s bs (parts-raw k r js bs (c .parts) (c .from)) in
+      let laid = meet-laid n r strict k (sorted js bs) (parts-meet bs (c .parts) ready) in
+      let same = arranged-same first (sorted js bs) in
+      record {
+        laid = laid .0;
+        ready = arranged-each first (Ready k r js) (sorted js bs) ready;
+        ordered = laid .1;
+        from = λ u p. c .from u (sorted-from js bs u (same u .0 p));
+        onto = λ u p. same u .1 (sorted-onto js bs u p (c .onto u p));
+      }

@@ -17,8 +17,9 @@ pub mod Realizer
 pub mod Linked
 pub mod Forbidden
 pub mod Canonical
-pub mod Unique
 pub mod Components
+pub mod Ranks
+pub mod Unique
 pub mod Connected
 pub mod Laying
 pub mod Telling

@@ -28,6 +28,14 @@ abbrev mutual
 abbrev pub InGroup : Tree → Forest → ℕ → Type 0
 InGroup t f u = In t u ⊎ InForest f u
 
+-- the same jobs
+
+abbrev pub Same : (ℕ → Type 0) → (ℕ → Type 0) → Type 0
+Same S R = (u : ℕ) → (S u → R u) × (R u → S u)
+
+pub same-sym : {S R : ℕ → Type 0} → Same S R → Same R S
+same-sym e u = (e u .1, e u .0)
+
 -- a list in front of another holds what one of the two holds
 in-append : {A B : Type 0} {u : ℕ} {xs : List ℕ} {ys : List ℕ} → (A → List·Memᴰ u xs) → (B → List·Memᴰ u ys) → A ⊎ B → List·Memᴰ u (xs ++ ys)
 in-append {ys = ys} f g (inl a) = Memᴰ·append-left ys (f a)

@@ -1,27 +1,14 @@
 -- How two jobs stand to each other, and what that means for a group of either kind.
 use Prim.Native.Nat.{ℕ}
 use mathlib.Core.Path.{_≡_, refl, sym, ap, ap₂, _∙_}
-use mathlib.Core.Bool.{Bool, true, false, _&&_, _||_, not}
+use mathlib.Core.Bool.{Bool, true, false, _&&_, not}
 use mathlib.Core.Logic.{_⊎_, inl, inr, ⊎-elim}
 use lib.Dec.{eqb}
 use Rattle.poset.specs.Order.{Rel, comparable, incomparable}
 use Rattle.poset.specs.Tree.{Kind, series, parallel}
-use Rattle.poset.proofs.Laws.{
-  decided,
-  clash,
-  false-unless,
-  and-left,
-  and-right,
-  and-intro,
-  or-cases,
-  or-left,
-  or-right,
-  not-true,
-  not-false,
-  eqb-true,
-  eqb-same,
-  eqb-differ,
-}
+pub use Rattle.poset.specs.Decompose.{near}
+use Rattle.poset.proofs.Laws.{decided, clash, false-unless, and-left, and-right, and-intro, or-cases, or-left, or-right, not-true, not-false}
+use Rattle.poset.proofs.Laws.{eqb-same, eqb-differ}
 
 pub record Free (r : Rel) (u v : ℕ) : Type 0 where
   pub differ : u ≡ v → ⊥
@@ -62,11 +49,6 @@ forced r u v c h = ⊎-elim (λ p. absurd (h p)) (λ p. p) (tied r u v c)
 
 pub free-sym : (r : Rel) (u v : ℕ) → Free r u v → Free r v u
 free-sym r u v f = record { differ = λ e. f .differ (sym e); forth = f .back; back = f .forth }
-
--- jobs that are near under a kind stay in one child of a group of that kind
-abbrev pub near : Kind → Rel → Rel
-near series r = incomparable r
-near parallel r = comparable r
 
 abbrev pub other : Kind → Kind
 other series = parallel

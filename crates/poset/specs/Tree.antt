@@ -3,7 +3,8 @@ use Prim.Native.Nat.{ℕ, suc, _+_, _<_, min}
 use mathlib.Core.Path.{_≡_}
 use mathlib.Core.List.{List, [], _∷_, _++_}
 use mathlib.Core.Bool.{Bool, true, false, _&&_, _||_, cond}
-use lib.Dec.{ltb}
+use lib.Dec.{eqb, ltb}
+use lib.ListN.{length}
 use Rattle.poset.specs.Lists.{member, occurrences}
 use Rattle.poset.specs.Order.{Rel}
 
@@ -105,10 +106,15 @@ alternates series (node parallel t f) = true
 alternates parallel (node series t f) = true
 alternates parallel (node parallel t f) = false
 
--- the order of a parallel group's children: by the smallest job in each
+-- Document 02, A.8: of branches side by side the one with most jobs is laid out first, equal ones by smallest job. Whether m jobs, the smallest of them x,
+-- go ahead of n jobs, the smallest of them y
+unfoldable pub outranks : ℕ → ℕ → ℕ → ℕ → Bool
+outranks m x n y = ltb n m || (eqb m n && ltb x y)
+
+-- the order of a parallel group's children
 unfoldable pub ahead : Kind → Tree → Tree → Bool
 ahead series s t = true
-ahead parallel s t = ltb (least s) (least t)
+ahead parallel s t = outranks (length (leaves s)) (least s) (length (leaves t)) (least t)
 
 -- Document 01: the plain form
 unfoldable mutual

@@ -5,8 +5,8 @@ use mathlib.Core.List.{List, [], _∷_, map, flatMap}
 use mathlib.Core.Option.{bind}
 use Rattle.poset.specs.Lists.{exists, keep, member, upFrom, below, first, onlyIf}
 use Rattle.poset.specs.Order.{arc, via, before, firstOnCycle, comparable, incomparable, isN, firstN, covers, pairsOf, reduction}
-use Rattle.poset.specs.Tree.{leaves, groups, least}
-use Rattle.poset.specs.Decompose.{gather, components, placed, inSeries, sorted, parallelParts, seriesParts, forestOf, groupOf, decompose, treeOf}
+use Rattle.poset.specs.Tree.{leaves, groups, outranks}
+use Rattle.poset.specs.Decompose.{gather, components, sorted, placed, arranged, comesFirst, parts, forestOf, groupOf, decompose, treeOf}
 use Rattle.relation.specs.Arcs.{pairs, placeFrom, place, outside, loop}
 use Rattle.record.specs.Bits.{bits, packed, bytesOf}
 use Rattle.record.specs.Layout.{kindBit, moreChildren, treeBits, layout}
@@ -51,7 +51,7 @@ examples =
 pub shown-previews
     : map (λ (e : Example). previewed (e .0) (e .1) (e .2) (e .3) (e .4)) examples ≡ map (λ (e : Example). e .5) examples
 unfolding bind flatMap exists keep member upFrom below first onlyIf arc via before firstOnCycle comparable incomparable isN firstN covers pairsOf
-    reduction leaves groups least gather components placed inSeries sorted parallelParts seriesParts forestOf groupOf decompose treeOf pairs placeFrom
+    reduction leaves groups outranks gather components sorted placed arranged comesFirst parts forestOf groupOf decompose treeOf pairs placeFrom
     place outside loop bits packed bytesOf kindBit moreChildren treeBits layout refuse accept arcsFit fitted decomposed ordered listed timed arcOutcome
     pairOutcome previewed
 shown-previews = refl

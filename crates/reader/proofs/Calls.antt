@@ -24,8 +24,8 @@ abbrev pub childrenMeasure : List ℕ → ℕ → ℕ → ℕ
 childrenMeasure bytes done gone = suc (childMeasure bytes done gone)
 
 -- a child of a group: it begins where the children do, or further on
-pub call-child : (k : Kind) {bytes : List ℕ} {n c done gone : ℕ} {w : Lists} {left floor : ℕ} {v : Lists} {p : Part} (m : ℕ)
-    → Run k bytes n c done gone w left floor v p → childrenMeasure bytes done gone ≡ m
+pub call-child : (k : Kind) {bytes : List ℕ} {n c done gone : ℕ} {w : Lists} {left size least : ℕ} {v : Lists} {p : Part} (m : ℕ)
+    → Run k bytes n c done gone w left size least v p → childrenMeasure bytes done gone ≡ m
     → (childMeasure bytes (p .done) (p .groups) < m) × Ready bytes n (p .done) (p .groups) (v .seen) (v .next) (v .hours)
 call-child k m r e = (omega (arith, r .onward), r .ready)
 

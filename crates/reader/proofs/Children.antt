@@ -3,14 +3,15 @@ use Prim.Native.Nat.{ℕ, suc, _+_, _-_, _^_, _≤_, _<_, min}
 use mathlib.Core.Path.{_≡_, refl, sym, ap, ap₂, subst, _∙_}
 use mathlib.Core.List.{List, _++_, List·Memᴰ, Memᴰ·append-left, Memᴰ·append-right}
 use mathlib.Core.Bool.{Bool, true, false}
-use mathlib.Core.Logic.{⊎-elim}
+use mathlib.Core.Logic.{inl, ⊎-elim}
 use native.Mathlib.Omega.{arith}
 use lib.ListN.{length, set, length-append, length-set}
 use lib.Seq.{sets, getD-set-other}
-use Rattle.poset.specs.Tree.{Kind, series, parallel, Tree, Forest, last, more, leaves, forestLeaves, joined, reversed, least, groups}
+use Rattle.poset.specs.Tree.{Kind, series, parallel, Tree, Forest, last, more, leaves, forestLeaves, joined, reversed, least, groups, ahead}
 use Rattle.poset.proofs.Laws.{decided, clash, same-count-mem}
-use Rattle.poset.proofs.Shape.{OnceForest, in-leaves, leaves-in, forestLeaves-in}
-use Rattle.poset.proofs.Canonical.{CanonForest, least-in}
+use Rattle.poset.proofs.Shape.{OnceForest, leaves-in, forestLeaves-in}
+use Rattle.poset.proofs.Canonical.{firstOf, CanonForest}
+use Rattle.poset.proofs.Ranks.{ranked}
 use Rattle.poset.proofs.Realizer.{reversed-count}
 use Rattle.record.specs.Bits.{AllBelow, bitsOf}
 use Rattle.record.specs.Layout.{hoursBits, moreChildren, treeBits, forestBits}
@@ -21,7 +22,7 @@ use Rattle.reader.specs.Parts.{unreadPart, front, behind, longer, longer
 use Rattle.reader.specs.declared.parts.Part.{Part}
 use Rattle.reader.proofs.Positions.{at-left, at-right, at-join}
 use Rattle.reader.proofs.Strands.{strand-last, strand-kept, strand-link}
-use Rattle.reader.proofs.Pieces.{both, Sound, back-in, back-once, sound-tree, sound-forest, floorAfter, leads-above}
+use Rattle.reader.proofs.Pieces.{both, Sound, back-in, back-once, sound-tree, sound-forest, goesAhead, kept, Follows, kept-ahead}
 use Rattle.reader.proofs.Pieces.{snoc, lastOf, piece-snoc, snoc-number, snoc-last, canon-snoc, once-snoc}
 use Rattle.reader.proofs.Marks.{length-marked, marked-append, sets-append, free-left, free-right, free-apart, free-join, free-small}
 use Rattle.reader.proofs.Inversion.{one-tree}
@@ -127,108 +128,128 @@ module _ (k : Kind) (bs : List ℕ) (done gone : ℕ) (w v v' : Lists) (x y : Pi
 
 -- what a child that was found is bounded by
 
-pub record Bounded (p : Part) : Type 0 where
+pub record Bounded (done : ℕ) (p : Part) : Type 0 where
   pub lasts : p .last < 128
-  pub smallest : p .least < 128
+  pub onward : done ≤ p .done
 
-pub child-bounded : (k : Kind) {bs : List ℕ} {n floor done gone : ℕ} {w v : Lists} {p : Part} → n ≤ 128
-    → Found ofTree (PlainUnder k) bs n floor done gone w v p → p .ok ≡ true → Bounded p
+pub child-bounded : (k : Kind) {bs : List ℕ} {n done gone : ℕ} {w v : Lists} {p : Part} → n ≤ 128
+    → Found ofTree (PlainUnder k) bs n done gone w v p → p .ok ≡ true → Bounded done p
 child-bounded k {p = p} small r ok =
     let (t, may, free, placed) = r .some ok in
     record {
       lasts = omega (arith, free .inside (p .last) (reversed-in t (strand-last (placed .strand))));
-      smallest = omega (arith, placed .least, free .inside (least t) (in-leaves t (least-in t)));
+      onward = omega (arith, placed .number);
     }
 
--- no c + 1 children stand there
-abbrev NoneFrom : Kind → ℕ → List ℕ → (n floor done gone : ℕ) → List ℕ → Type 0
-NoneFrom k c bs n floor done gone seen =
-    (f : Forest) → PlainChildren k c f → Free n floor done gone seen (ofForest k f)
+-- no c + 1 children stand there of which the first is as asked
+abbrev NoneFrom : Kind → ℕ → List ℕ → (Tree → Type 0) → (n done gone : ℕ) → List ℕ → Type 0
+NoneFrom k c bs Asked n done gone seen =
+    (f : Forest) → PlainChildren k c f → Asked (firstOf f) → Free n done gone seen (ofForest k f)
     → (hours : List ℕ) → AllBelow (2 ^ hoursBits) hours → At bs (place done gone) (forestBits hours f) → ⊥
 
-module _ (k : Kind) (bs : List ℕ) (n floor done gone : ℕ) (few : n ≤ 128) (w v : Lists) (p : Part)
-    (child : Found ofTree (PlainUnder k) bs n floor done gone w v p) where
+-- the first of some children
+first-free : (k : Kind) {n done gone : ℕ} {seen : List ℕ} (f : Forest) → Free n done gone seen (ofForest k f) → Free n done gone seen (ofTree (firstOf f))
+unfolding leaves treeBits reversed least groups
+first-free k (last t) free = free
+first-free k (more t f) free = free-left k (ofTree t) (ofForest k f) free
+
+first-at : {bs : List ℕ} {i : ℕ} (hours : List ℕ) (f : Forest) → At bs i (forestBits hours f) → At bs i (treeBits hours (firstOf f))
+unfolding treeBits
+first-at hours (last t) s = s
+first-at hours (more t f) s = at-left (treeBits hours t) (forestBits hours f) s
+
+first-plain : (k : Kind) (c : ℕ) (f : Forest) → PlainChildren k c f → PlainUnder k (firstOf f)
+first-plain k c (last t) may = (may .1 .0, (may .1 .1, may .2))
+first-plain k c (more t f) may = (may .1 .0, (may .1 .1, may .2 .0))
+
+module _ (k : Kind) (bs : List ℕ) (n done gone : ℕ) (few : n ≤ 128) (w v : Lists) (p : Part) (Asked : Tree → Type 0)
+    (child : Found ofTree (PlainUnder k) bs n done gone w v p) where
   -- as no child does
-  none-first : p .ok ≡ false → (c : ℕ) → NoneFrom k c bs n floor done gone (w .seen)
-  unfolding leaves treeBits reversed least groups
-  none-first bad c (last t) may free g low s = child .none bad t (may .1 .0, (may .1 .1, may .2)) free g low s
-  none-first bad c (more t f) may free g low s =
-      child .none bad t (may .1 .0, (may .1 .1, may .2 .0)) (free-left k (ofTree t) (ofForest k f) free)
-      g low (at-left (treeBits g t) (forestBits g f) s)
+  none-first : p .ok ≡ false → (c : ℕ) → NoneFrom k c bs Asked n done gone (w .seen)
+  none-first bad c f may asked free g low s = child .none bad (firstOf f) (first-plain k c f may) (first-free k f free) g low (first-at g f s)
+
+  -- the child that was read is the first
+  is-first : (t : Tree) → Free n done gone (w .seen) (ofTree t) → Placed bs done gone w v p (ofTree t) → (f : Forest)
+      → Free n done gone (w .seen) (ofForest k f) → (g : List ℕ) → AllBelow (2 ^ hoursBits) g → At bs (place done gone) (forestBits g f) → firstOf f ≡ t
+  is-first t free-t placed f free g low s =
+      one-tree g (v .hours) low (placed .low) (firstOf f) t (free-small few (first-free k f free)) (free-small few free-t) (first-at g f s) (placed .stands)
+
+  -- as the child that does is not as asked
+  none-asked : (t : Tree) → Free n done gone (w .seen) (ofTree t) → Placed bs done gone w v p (ofTree t) → (Asked t → ⊥) → (c : ℕ)
+      → NoneFrom k c bs Asked n done gone (w .seen)
+  none-asked t free-t placed other c f may asked free g low s = other (subst Asked (is-first t free-t placed f free g low s) asked)
 
   -- as none do after the child
-  none-after : p .ok ≡ true → (c : ℕ) → NoneFrom k c bs n (floorAfter k (p .least)) (p .done) (p .groups) (v .seen)
-      → NoneFrom k (suc c) bs n floor done gone (w .seen)
+  none-after : (t : Tree) → Free n done gone (w .seen) (ofTree t) → Placed bs done gone w v p (ofTree t) → (c : ℕ)
+      → NoneFrom k c bs (λ s. ahead k t s ≡ true) n (p .done) (p .groups) (v .seen) → NoneFrom k (suc c) bs Asked n done gone (w .seen)
   unfolding leaves treeBits reversed least groups moreChildren
-  none-after ok c none (last t) may free g low s = omega (arith, may .0)
-  none-after ok c none (more x f) may-x free-x g low s-x =
-      let (t, _, free-t, placed) = child .some ok in
-      let small-x = free-small few (free-left k (ofTree x) (ofForest k f) free-x) in
-      let same : x ≡ t =
-      one-tree g (v .hours) low (placed .low) x t small-x (free-small few free-t) (at-left (treeBits g x) (forestBits g f) s-x) (placed .stands) in
+  none-after t free-t placed c none (last x) may asked free g low s = omega (arith, may .0)
+  none-after t free-t placed c none (more x f) may-x asked free-x g low s-x =
+      let same : x ≡ t = is-first t free-t placed (more x f) free-x g low s-x in
       let may : PlainChildren k (suc c) (more t f) = subst (λ (y : Tree). PlainChildren k (suc c) (more y f)) same may-x in
-      let free : Free n floor done gone (w .seen) (both k (ofTree t) (ofForest k f)) =
-      subst (λ (y : Tree). Free n floor done gone (w .seen) (both k (ofTree y) (ofForest k f))) same free-x in
+      let free : Free n done gone (w .seen) (both k (ofTree t) (ofForest k f)) =
+      subst (λ (y : Tree). Free n done gone (w .seen) (both k (ofTree y) (ofForest k f))) same free-x in
       let s : At bs (place done gone) (treeBits g t ++ forestBits g f) =
       subst (λ (y : Tree). At bs (place done gone) (treeBits g y ++ forestBits g f)) same s-x in
       let here : place done gone + length (treeBits g t) ≡ place (p .done) (p .groups) =
       omega (arith, placed .end, length-treeBits g t, length-treeBits (v .hours) t) in
       let (_, _, canon, leads) = may .1 in
       let (_, once, apart) = may .2 in
-      none f (omega (arith, may .0), canon, once)
-      (free-right k (ofTree t) (ofForest k f) placed (floorAfter k (p .least)) free (λ u i j. apart u (leaves-in t i) (forestLeaves-in f j))
-      (λ u m. subst (λ (a : ℕ). floorAfter k a ≤ u) (sym (placed .least)) (leads-above k t f leads u m)))
+      none f (omega (arith, may .0), canon, once) leads
+      (free-right k (ofTree t) (ofForest k f) placed free (λ u i j. apart u (leaves-in t i) (forestLeaves-in f j)))
       g low (subst (λ (i : ℕ). At bs i (forestBits g f)) here (at-right (treeBits g t) (forestBits g f) s))
 
--- some children that were read, and the floor under the next
-record Prefix (k : Kind) (bs : List ℕ) (n done gone : ℕ) (w v : Lists) (p : Part) (number floor : ℕ) : Type 0 where
+-- some children that were read, and what is kept of the last
+record Prefix (k : Kind) (bs : List ℕ) (n done gone : ℕ) (w v : Lists) (p : Part) (number m x : ℕ) : Type 0 where
   forest : Forest
   trees : moreChildren forest ≡ number
   canon : CanonForest k forest
   once : OnceForest forest
-  free : Free n 0 done gone (w .seen) (ofForest k forest)
+  free : Free n done gone (w .seen) (ofForest k forest)
   placed : Placed bs done gone w v p (ofForest k forest)
-  ground : floor ≡ floorAfter k (least (lastOf forest))
+  ground : (t : Tree) → Follows k m x t → ahead k (lastOf forest) t ≡ true
 
 module _ (k : Kind) (bs : List ℕ) (n done gone : ℕ) (w : Lists) where
-  prefix-first : (v : Lists) (q : Part) → Found ofTree (PlainUnder k) bs n 0 done gone w v q → q .ok ≡ true
-      → Prefix k bs n done gone w v q 1 (floorAfter k (q .least))
-  unfolding leaves treeBits reversed least groups moreChildren
-  prefix-first v q child ok =
-      let (t, may, free, placed) = child .some ok in
-      record {
-        forest = last t;
-        trees = refl;
-        canon = (may .0, may .1 .0);
-        once = may .1 .1;
-        free = free;
-        placed = placed;
-        ground = ap (floorAfter k) (placed .least);
-      }
+  module _ (v : Lists) (q : Part) (t : Tree) (may : PlainUnder k t) (free : Free n done gone (w .seen) (ofTree t))
+      (placed : Placed bs done gone w v q (ofTree t)) where
+    prefix-first : Prefix k bs n done gone w v q 1 (kept k (q .done - done)) (kept k (q .least))
+    unfolding leaves treeBits reversed least groups moreChildren
+    prefix-first =
+        record {
+          forest = last t;
+          trees = refl;
+          canon = (may .0, may .1 .0);
+          once = may .1 .1;
+          free = free;
+          placed = placed;
+          ground = λ s h. sym (kept-ahead k t s (q .done - done) (q .least) (omega (arith, placed .number)) (placed .least)) ∙ h;
+        }
 
-  module _ (v : Lists) (p : Part) (number floor : ℕ) (x : Prefix k bs n done gone w v p number floor) where
-    prefix-more : (v' : Lists) (q : Part) → n ≤ length (w .next) → n ≤ length (w .seen)
-        → Found ofTree (PlainUnder k) bs n floor (p .done) (p .groups) v v' q → q .ok ≡ true
-        → Prefix k bs n done gone w (linkedLists k v' p q) (linkedPart k p q) (suc number) (floorAfter k (q .least))
-    prefix-more v' q next-size seen-size child ok =
-        let (t, may, free-t, placed-t) = child .some ok in
-        let f : Forest = x .forest in
+  module _ (v : Lists) (p : Part) (number m x : ℕ) (y : Prefix k bs n done gone w v p number m x) where
+    prefix-more : (v' : Lists) (q : Part) (t : Tree) → n ≤ length (w .next) → n ≤ length (w .seen) → PlainUnder k t
+        → Free n (p .done) (p .groups) (v .seen) (ofTree t) → Placed bs (p .done) (p .groups) v v' q (ofTree t) → Follows k m x t
+        → Prefix k bs n done gone w (linkedLists k v' p q) (linkedPart k p q) (suc number) (kept k (q .done - p .done)) (kept k (q .least))
+    prefix-more v' q t next-size seen-size may free-t placed-t follows =
+        let f : Forest = y .forest in
         let a : Piece = ofForest k f in
         let b : Piece = ofTree t in
-        let apart = free-apart k a b (x .placed) floor seen-size (x .free) free-t in
-        let free-both = free-join k a b (x .placed) floor seen-size (x .free) free-t (λ u m. omega arith) in
+        let apart = free-apart k a b (y .placed) seen-size (y .free) free-t in
+        let free-both = free-join k a b (y .placed) seen-size (y .free) free-t in
         let same : ofForest k (snoc f t) ≡ both k a b = piece-snoc k f t in
         record {
           forest = snoc f t;
-          trees = snoc-number f t ∙ ap suc (x .trees);
-          canon = canon-snoc k t (may .0) (may .1 .0) f (x .canon) (λ u m. subst (λ (l : ℕ). l ≤ u) (x .ground) (free-t .above u m));
-          once = once-snoc f t (x .once) (may .1 .1) apart;
-          free = subst (Free n 0 done gone (w .seen)) (sym same) free-both;
+          trees = snoc-number f t ∙ ap suc (y .trees);
+          canon = canon-snoc k t (may .0) (may .1 .0) f (y .canon) (y .ground t follows);
+          once = once-snoc f t (y .once) (may .1 .1) apart;
+          free = subst (Free n done gone (w .seen)) (sym same) free-both;
           placed =
               subst (Placed bs done gone w (linkedLists k v' p q) (linkedPart k p q)) (sym same)
-              (joined-placed k bs done gone w v v' a b p q (x .placed) placed-t (sound-forest k f (x .once)) (sound-tree t (may .1 .1)) apart
+              (joined-placed k bs done gone w v v' a b p q (y .placed) placed-t (sound-forest k f (y .once)) (sound-tree t (may .1 .1)) apart
               (λ u m. omega (arith, free-both .inside u m)));
-          ground = ap (floorAfter k) (placed-t .least ∙ ap least (sym (snoc-last f t)));
+          ground = λ s h.
+              ap (λ (i : Tree). ahead k i s) (snoc-last f t)
+              ∙ sym (kept-ahead k t s (q .done - p .done) (q .least) (omega (arith, placed-t .number)) (placed-t .least))
+              ∙ h;
         }
 
     prefix-ready : {bytes : List ℕ} → Ready bytes n done gone (w .seen) (w .next) (w .hours)
@@ -236,64 +257,97 @@ module _ (k : Kind) (bs : List ℕ) (n done gone : ℕ) (w : Lists) where
     prefix-ready r = record {
       short = r .short;
       few = r .few;
-      named = omega (arith, x .placed .number, x .free .room);
-      opened = omega (arith, x .placed .groups, x .free .fewer);
-      marks = ap length (x .placed .seen) ∙ length-marked (w .seen) (forestLeaves (x .forest)) ∙ r .marks;
-      links = x .placed .room ∙ r .links;
-      entries = x .placed .entries ∙ r .entries;
-      low = x .placed .low;
+      named = omega (arith, y .placed .number, y .free .room);
+      opened = omega (arith, y .placed .groups, y .free .fewer);
+      marks = ap length (y .placed .seen) ∙ length-marked (w .seen) (forestLeaves (y .forest)) ∙ r .marks;
+      links = y .placed .room ∙ r .links;
+      entries = y .placed .entries ∙ r .entries;
+      low = y .placed .low;
     }
 
     prefix-last : n ≤ 128 → p .last < 128
-    prefix-last few = omega (arith, x .free .inside (p .last) (back-in (sound-forest k (x .forest) (x .once)) (strand-last (x .placed .strand))))
+    prefix-last few = omega (arith, y .free .inside (p .last) (back-in (sound-forest k (y .forest) (y .once)) (strand-last (y .placed .strand))))
 
--- the loop of a reader: of c + 1 children `left` are to come. The part is not ok before the first
-pub record Run (k : Kind) (bytes : List ℕ) (n c done gone : ℕ) (w : Lists) (left floor : ℕ) (v : Lists) (p : Part) : Type 0 where
+-- any first child
+abbrev Any : Tree → Type 0
+Any t = Unit {0}
+
+-- the loop of a reader: of c + 1 children `left` are to come, the next to follow one of m jobs, the smallest x. The part is not ok before the first
+pub record Run (k : Kind) (bytes : List ℕ) (n c done gone : ℕ) (w : Lists) (left m x : ℕ) (v : Lists) (p : Part) : Type 0 where
   pub within : left ≤ c + 1
   pub ready : Ready bytes n (p .done) (p .groups) (v .seen) (v .next) (v .hours)
   pub onward : (done ≤ p .done) × (gone ≤ p .groups)
-  begun : p .ok ≡ true → Prefix k (bitsOf bytes) n done gone w v p (c + 1 - left) floor
-  unbegun : p .ok ≡ false → (p .done ≡ done) × (p .groups ≡ gone) × (v ≡ w) × (floor ≡ 0) × (left ≡ c + 1)
-  missing : (l : ℕ) → left ≡ suc l → NoneFrom k l (bitsOf bytes) n floor (p .done) (p .groups) (v .seen) → NoneFrom k c (bitsOf bytes) n 0 done gone (w .seen)
+  begun : p .ok ≡ true → Prefix k (bitsOf bytes) n done gone w v p (c + 1 - left) m x
+  unbegun : p .ok ≡ false → (p .done ≡ done) × (p .groups ≡ gone) × (v ≡ w) × (left ≡ c + 1)
+  missing : (l : ℕ) → left ≡ suc l → NoneFrom k l (bitsOf bytes) (Follows k m x) n (p .done) (p .groups) (v .seen)
+      → NoneFrom k c (bitsOf bytes) Any n done gone (w .seen)
+
+-- before the first, more jobs than any child has
+first-follows : (k : Kind) (t : Tree) → length (leaves t) ≤ 128 → Follows k (kept k 129) (kept k 0) t
+first-follows series t l = refl
+first-follows parallel t l = ranked 129 0 (length (leaves t)) (least t) (inl (omega arith))
 
 module _ (k : Kind) (bytes : List ℕ) (n c done gone : ℕ) (w : Lists) (r : Ready bytes n done gone (w .seen) (w .next) (w .hours)) where
-  pub run-begin : (p : Part) → p ≡ unreadPart done gone → Run k bytes n c done gone w (c + 1) 0 w p
-  run-begin p same = subst (λ (q : Part). Run k bytes n c done gone w (c + 1) 0 w q) (sym same) record {
+  pub run-begin : (p : Part) → p ≡ unreadPart done gone → Run k bytes n c done gone w (c + 1) (kept k 129) (kept k 0) w p
+  run-begin p same = subst (λ (q : Part). Run k bytes n c done gone w (c + 1) (kept k 129) (kept k 0) w q) (sym same) record {
     within = omega arith;
     ready = r;
     onward = omega arith;
     begun = λ ok. absurd (clash ok refl);
-    unbegun = λ _. (refl, refl, refl, refl, refl);
-    missing = λ l e none. subst (λ (i : ℕ). NoneFrom k i (bitsOf bytes) n 0 done gone (w .seen)) (omega arith) none;
+    unbegun = λ _. (refl, refl, refl, refl);
+    missing = λ l e none f may any free.
+        none f (subst (λ (i : ℕ). PlainChildren k i f) (omega arith) may)
+        (first-follows k (firstOf f) (omega (arith, first-free k f free .room, r .few))) free;
   }
 
-  module _ (left floor : ℕ) (v : Lists) (p : Part) (run : Run k bytes n c done gone w left floor v p) where
+  module _ (left m x : ℕ) (v : Lists) (p : Part) (run : Run k bytes n c done gone w left m x v p) where
     -- all are read
-    pub run-end : left ≡ 0 → Found (ofForest k) (PlainChildren k c) (bitsOf bytes) n 0 done gone w v p
+    pub run-end : left ≡ 0 → Found (ofForest k) (PlainChildren k c) (bitsOf bytes) n done gone w v p
     run-end e = record {
       some = λ ok.
-          let x = run .begun ok in
-          (x .forest, (omega (arith, x .trees), x .canon, x .once), x .free, x .placed);
-      none = λ bad. absurd (omega (arith, run .unbegun bad .4));
+          let y = run .begun ok in
+          (y .forest, (omega (arith, y .trees), y .canon, y .once), y .free, y .placed);
+      none = λ bad. absurd (omega (arith, run .unbegun bad .3));
     }
 
     pub run-last : p .ok ≡ true → p .last < 128
-    run-last ok = prefix-last k (bitsOf bytes) n done gone w v p (c + 1 - left) floor (run .begun ok) (r .few)
+    run-last ok = prefix-last k (bitsOf bytes) n done gone w v p (c + 1 - left) m x (run .begun ok) (r .few)
 
-    module _ (v' : Lists) (q : Part) (child : Found ofTree (PlainUnder k) (bitsOf bytes) n floor (p .done) (p .groups) v v' q) (some : 0 < left) where
+    module _ (v' : Lists) (q : Part) (child : Found ofTree (PlainUnder k) (bitsOf bytes) n (p .done) (p .groups) v v' q) (some : 0 < left) where
       one-less : left ≡ suc (left - 1)
       one-less = omega arith
 
       -- no child stands there
-      pub run-none : q .ok ≡ false → Found (ofForest k) (PlainChildren k c) (bitsOf bytes) n 0 done gone w v' q
+      pub run-none : q .ok ≡ false → Found (ofForest k) (PlainChildren k c) (bitsOf bytes) n done gone w v' q
       run-none bad = record {
         some = λ ok. absurd (clash ok bad);
-        none = λ _.
+        none = λ _ f may free.
             run .missing (left - 1) one-less
-            (none-first k (bitsOf bytes) n floor (p .done) (p .groups) (r .few) v v' q child bad (left - 1));
+            (none-first k (bitsOf bytes) n (p .done) (p .groups) (r .few) v v' q (Follows k m x) child bad (left - 1)) f may tt free;
       }
 
       module _ (ok : q .ok ≡ true) where
+        -- as far as the child tells, it may follow
+        abbrev Told : Type 0
+        Told = goesAhead k m x (q .done - p .done) (q .least) ≡ true
+
+        -- which is the child's own
+        told-is : (t : Tree) → Placed (bitsOf bytes) (p .done) (p .groups) v v' q (ofTree t)
+            → goesAhead k m x (q .done - p .done) (q .least) ≡ goesAhead k m x (length (leaves t)) (least t)
+        told-is t placed = ap₂ (goesAhead k m x) (omega (arith, placed .number)) (placed .least)
+
+        -- one stands there, and may not follow
+        pub run-behind : (Told → ⊥) → (p₁ : Part) → p₁ .ok ≡ false → Found (ofForest k) (PlainChildren k c) (bitsOf bytes) n done gone w v' p₁
+        run-behind other p₁ bad = record {
+          some = λ good. absurd (clash good bad);
+          none = λ _ f may free.
+              let (t, plain, free-t, placed) = child .some ok in
+              run .missing (left - 1) one-less
+              (none-asked k (bitsOf bytes) n (p .done) (p .groups) (r .few) v v' q (Follows k m x) child t free-t placed
+              (λ h. other (told-is t placed ∙ h)) (left - 1))
+              f may tt free;
+        }
+
         -- the child's lists with that list of next jobs
         abbrev linkedAs : List ℕ → Lists
         linkedAs next = record { seen = v' .seen; forward = v' .forward; next = next; hours = v' .hours }
@@ -301,54 +355,65 @@ module _ (k : Kind) (bytes : List ℕ) (n c done gone : ℕ) (w : Lists) (r : Re
         abbrev after : Lists
         after = linkedAs (longerNext k p q (v' .next))
 
-        child-first : p .ok ≡ false → Prefix k (bitsOf bytes) n done gone w v' q 1 (floorAfter k (q .least))
+        abbrev m′ : ℕ
+        m′ = kept k (q .done - p .done)
+
+        abbrev x′ : ℕ
+        x′ = kept k (q .least)
+
+        child-first : p .ok ≡ false → Prefix k (bitsOf bytes) n done gone w v' q 1 m′ x′
         child-first e =
-            let (d, g, l, f, _) = run .unbegun e in
-            let moved = subst (λ (i : Lists). Found ofTree (PlainUnder k) (bitsOf bytes) n floor (p .done) (p .groups) i v' q) l child in
-            let low = subst (λ (i : ℕ). Found ofTree (PlainUnder k) (bitsOf bytes) n i (p .done) (p .groups) w v' q) f moved in
-            let at-done = subst (λ (i : ℕ). Found ofTree (PlainUnder k) (bitsOf bytes) n 0 i (p .groups) w v' q) d low in
-            prefix-first k (bitsOf bytes) n done gone w v' q (subst (λ (i : ℕ). Found ofTree (PlainUnder k) (bitsOf bytes) n 0 done i w v' q) g at-done) ok
+            let (d, g, l, _) = run .unbegun e in
+            let moved = subst (λ (i : Lists). Found ofTree (PlainUnder k) (bitsOf bytes) n (p .done) (p .groups) i v' q) l child in
+            let at-done = subst (λ (i : ℕ). Found ofTree (PlainUnder k) (bitsOf bytes) n i (p .groups) w v' q) d moved in
+            let (t, may, free, placed) = subst (λ (i : ℕ). Found ofTree (PlainUnder k) (bitsOf bytes) n done i w v' q) g at-done .some ok in
+            subst (λ (i : ℕ). Prefix k (bitsOf bytes) n done gone w v' q 1 (kept k (q .done - i)) x′) (sym d)
+            (prefix-first k (bitsOf bytes) n done gone w v' q t may free placed)
 
         as-longer : (p₁ : Part) (l : List ℕ) (number : ℕ) → longer k p q ≡ p₁ → longerNext k p q (v' .next) ≡ l → number ≡ c + 1 - (left - 1)
-            → Prefix k (bitsOf bytes) n done gone w (linkedAs l) p₁ number (floorAfter k (q .least))
-            → Prefix k (bitsOf bytes) n done gone w after (longer k p q) (c + 1 - (left - 1)) (floorAfter k (q .least))
-        as-longer p₁ l number e f g x =
-            subst (λ (i : ℕ). Prefix k (bitsOf bytes) n done gone w after (longer k p q) i (floorAfter k (q .least))) g
-            (subst (λ (i : Part). Prefix k (bitsOf bytes) n done gone w after i number (floorAfter k (q .least))) (sym e)
-            (subst (λ (i : List ℕ). Prefix k (bitsOf bytes) n done gone w (linkedAs i) p₁ number (floorAfter k (q .least))) (sym f) x))
+            → Prefix k (bitsOf bytes) n done gone w (linkedAs l) p₁ number m′ x′
+            → Prefix k (bitsOf bytes) n done gone w after (longer k p q) (c + 1 - (left - 1)) m′ x′
+        as-longer p₁ l number e f g y =
+            subst (λ (i : ℕ). Prefix k (bitsOf bytes) n done gone w after (longer k p q) i m′ x′) g
+            (subst (λ (i : Part). Prefix k (bitsOf bytes) n done gone w after i number m′ x′) (sym e)
+            (subst (λ (i : List ℕ). Prefix k (bitsOf bytes) n done gone w (linkedAs i) p₁ number m′ x′) (sym f) y))
 
-        extended : Prefix k (bitsOf bytes) n done gone w after (longer k p q) (c + 1 - (left - 1)) (floorAfter k (q .least))
-        extended =
+        extended : Told → Prefix k (bitsOf bytes) n done gone w after (longer k p q) (c + 1 - (left - 1)) m′ x′
+        extended told =
             ⊎-elim
             (λ (e : p .ok ≡ true).
+            let (t, may, free, placed) = child .some ok in
             as-longer _ _ _ (longer-linked k p q e) (next-linked k p q (v' .next) e) (omega (arith, run .within))
-            (prefix-more k (bitsOf bytes) n done gone w v p (c + 1 - left) floor (run .begun e) v' q
-            (omega (arith, r .links, r .few)) (omega (arith, r .marks, r .few)) child ok))
+            (prefix-more k (bitsOf bytes) n done gone w v p (c + 1 - left) m x (run .begun e) v' q t
+            (omega (arith, r .links, r .few)) (omega (arith, r .marks, r .few)) may free placed
+            (sym (told-is t placed) ∙ told)))
             (λ (e : p .ok ≡ false).
-            as-longer _ _ _ (longer-first k p q e) (next-first k p q (v' .next) e) (omega (arith, run .unbegun e .4)) (child-first e))
+            as-longer _ _ _ (longer-first k p q e) (next-first k p q (v' .next) e) (omega (arith, run .unbegun e .3)) (child-first e))
             (decided (p .ok))
 
         -- a child more
-        pub run-more : (p′ : Part) (next : List ℕ) → p′ ≡ longer k p q → next ≡ longerNext k p q (v' .next)
-            → Run k bytes n c done gone w (left - 1) (floorAfter k (q .least)) (linkedAs next) p′
-        run-more p′ next same-part same-next =
+        pub run-more : Told → (p′ : Part) (next : List ℕ) → p′ ≡ longer k p q → next ≡ longerNext k p q (v' .next)
+            → Run k bytes n c done gone w (left - 1) m′ x′ (linkedAs next) p′
+        run-more told p′ next same-part same-next =
             let at : Lists = linkedAs next in
-            let floor′ : ℕ = floorAfter k (q .least) in
             let number : ℕ = c + 1 - (left - 1) in
-            let x : Prefix k (bitsOf bytes) n done gone w at p′ number floor′ =
-            subst (λ (i : Part). Prefix k (bitsOf bytes) n done gone w at i number floor′) (sym same-part)
-            (subst (λ (l : List ℕ). Prefix k (bitsOf bytes) n done gone w (linkedAs l) (longer k p q) number floor′) (sym same-next) extended) in
+            let y : Prefix k (bitsOf bytes) n done gone w at p′ number m′ x′ =
+            subst (λ (i : Part). Prefix k (bitsOf bytes) n done gone w at i number m′ x′) (sym same-part)
+            (subst (λ (l : List ℕ). Prefix k (bitsOf bytes) n done gone w (linkedAs l) (longer k p q) number m′ x′) (sym same-next) (extended told)) in
             let dones : p′ .done ≡ q .done = ap (λ (i : Part). i .done) same-part ∙ longer-ends k p q .0 in
             let groups-same : p′ .groups ≡ q .groups = ap (λ (i : Part). i .groups) same-part ∙ longer-ends k p q .1 in
             record {
               within = omega (arith, run .within);
-              ready = prefix-ready k (bitsOf bytes) n done gone w at p′ number floor′ x r;
-              onward = omega (arith, x .placed .number, x .placed .groups);
-              begun = λ _. x;
+              ready = prefix-ready k (bitsOf bytes) n done gone w at p′ number m′ x′ y r;
+              onward = omega (arith, y .placed .number, y .placed .groups);
+              begun = λ _. y;
               unbegun = λ bad. absurd (clash (ap (λ (i : Part). i .ok) same-part ∙ longer-ends k p q .2 ok) bad);
               missing = λ l e none.
+                  let (t, may, free, placed) = child .some ok in
                   run .missing (suc l) (omega arith)
-                  (none-after k (bitsOf bytes) n floor (p .done) (p .groups) (r .few) v v' q child ok l
-                  (subst (λ (d : ℕ). NoneFrom k l (bitsOf bytes) n floor′ d (q .groups) (v' .seen)) dones
-                  (subst (λ (g : ℕ). NoneFrom k l (bitsOf bytes) n floor′ (p′ .done) g (v' .seen)) groups-same none)));
+                  (none-after k (bitsOf bytes) n (p .done) (p .groups) (r .few) v v' q (Follows k m x) child t free placed l
+                  (λ f plain leads.
+                  subst (λ (d : ℕ). NoneFrom k l (bitsOf bytes) (Follows k m′ x′) n d (q .groups) (v' .seen)) dones
+                  (subst (λ (g : ℕ). NoneFrom k l (bitsOf bytes) (Follows k m′ x′) n (p′ .done) g (v' .seen)) groups-same none)
+                  f plain (kept-ahead k t (firstOf f) (q .done - p .done) (q .least) (omega (arith, placed .number)) (placed .least) ∙ leads)));
             }

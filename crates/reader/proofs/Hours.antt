@@ -33,7 +33,7 @@ pub below-take : {m : ℕ} (n : ℕ) (xs : List ℕ) → AllBelow m xs → AllBe
 below-take {m} n xs h = below-left (take n xs) (drop n xs) (subst (AllBelow m) (sym (take-append-drop n xs)) h)
 
 module _ {bs : List ℕ} {n : ℕ} {w v : Lists} {p : Part} (t : Tree) (few : n ≤ 128) (zeros : w .hours ≡ replicate 128 0)
-    (free : Free n 0 0 0 (w .seen) (ofTree t)) (placed : Placed bs 0 0 w v p (ofTree t)) where
+    (free : Free n 0 0 (w .seen) (ofTree t)) (placed : Placed bs 0 0 w v p (ofTree t)) where
   size : length (v .hours) ≡ 128
   size = placed .entries ∙ ap length zeros ∙ length-replicate {A = ℕ} 128 0
 

@@ -55,22 +55,20 @@ marked-in s (j ∷ js) u l m =
 
 -- the jobs of a part, and of what follows it
 
-module _ {n floor done gone : ℕ} {s : List ℕ} (k : Kind) (x y : Piece) where
-  pub free-left : Free n floor done gone s (both k x y) → Free n floor done gone s x
+module _ {n done gone : ℕ} {s : List ℕ} (k : Kind) (x y : Piece) where
+  pub free-left : Free n done gone s (both k x y) → Free n done gone s x
   free-left f = record {
     inside = λ u m. f .inside u (Memᴰ·append-left (y .forth) m);
-    above = λ u m. f .above u (Memᴰ·append-left (y .forth) m);
     unseen = λ u m. f .unseen u (Memᴰ·append-left (y .forth) m);
     room = omega (arith, f .room, length-append (x .forth) (y .forth));
     fewer = omega (arith, f .fewer);
   }
 
-module _ {bs : List ℕ} {n floor done gone : ℕ} {w v : Lists} {p : Part} (k : Kind) (x y : Piece) (placed : Placed bs done gone w v p x) where
-  pub free-right : (later : ℕ) → Free n floor done gone (w .seen) (both k x y) → ((u : ℕ) → List·Memᴰ u (x .forth) → List·Memᴰ u (y .forth) → ⊥)
-      → ((u : ℕ) → List·Memᴰ u (y .forth) → later ≤ u) → Free n later (p .done) (p .groups) (v .seen) y
-  free-right later f apart above = record {
+module _ {bs : List ℕ} {n done gone : ℕ} {w v : Lists} {p : Part} (k : Kind) (x y : Piece) (placed : Placed bs done gone w v p x) where
+  pub free-right : Free n done gone (w .seen) (both k x y) → ((u : ℕ) → List·Memᴰ u (x .forth) → List·Memᴰ u (y .forth) → ⊥)
+      → Free n (p .done) (p .groups) (v .seen) y
+  free-right f apart = record {
     inside = λ u m. f .inside u (Memᴰ·append-right (x .forth) m);
-    above = above;
     unseen = λ u m.
         ap (λ (s : List ℕ). getD s u 0) (placed .seen)
         ∙ marked-other (w .seen) (x .forth) u (λ i. apart u i m)
@@ -79,7 +77,7 @@ module _ {bs : List ℕ} {n floor done gone : ℕ} {w v : Lists} {p : Part} (k :
     fewer = omega (arith, f .fewer, placed .groups);
   }
 
-  module _ (later : ℕ) (small : n ≤ length (w .seen)) (f : Free n floor done gone (w .seen) x) (g : Free n later (p .done) (p .groups) (v .seen) y) where
+  module _ (small : n ≤ length (w .seen)) (f : Free n done gone (w .seen) x) (g : Free n (p .done) (p .groups) (v .seen) y) where
     pub free-apart : (u : ℕ) → List·Memᴰ u (x .forth) → List·Memᴰ u (y .forth) → ⊥
     free-apart u i j =
         omega (
@@ -88,10 +86,9 @@ module _ {bs : List ℕ} {n floor done gone : ℕ} {w v : Lists} {p : Part} (k :
           g .unseen u j,
         )
 
-    pub free-join : ((u : ℕ) → List·Memᴰ u (y .forth) → floor ≤ u) → Free n floor done gone (w .seen) (both k x y)
-    free-join above = record {
+    pub free-join : Free n done gone (w .seen) (both k x y)
+    free-join = record {
       inside = λ u m. ⊎-elim (λ i. f .inside u i) (λ j. g .inside u j) (List·Memᴰ·append-cases (x .forth) m);
-      above = λ u m. ⊎-elim (λ i. f .above u i) (λ j. above u j) (List·Memᴰ·append-cases (x .forth) m);
       unseen = λ u m.
           ⊎-elim
           (λ i. f .unseen u i)
@@ -103,5 +100,5 @@ module _ {bs : List ℕ} {n floor done gone : ℕ} {w v : Lists} {p : Part} (k :
       fewer = omega (arith, g .fewer, placed .groups);
     }
 
-pub free-small : {n floor done gone : ℕ} {s : List ℕ} {x : Piece} → n ≤ 128 → Free n floor done gone s x → Small (x .forth)
+pub free-small : {n done gone : ℕ} {s : List ℕ} {x : Piece} → n ≤ 128 → Free n done gone s x → Small (x .forth)
 free-small l f = (λ u m. omega (arith, f .inside u m), omega (arith, f .room))

@@ -1,15 +1,17 @@
 -- Pieces one after another, and the children of a group with one more behind them.
 use Prim.Native.Nat.{ℕ, suc, _+_, _≤_, min}
-use mathlib.Core.Path.{_≡_, refl, sym, ap, subst, fun-ext, _∙_}
+use mathlib.Core.Path.{_≡_, refl, sym, ap, ap₂, subst, fun-ext, _∙_}
 use mathlib.Core.List.{List, _++_, append-assoc, List·Memᴰ, Memᴰ·append-right, List·Memᴰ·append-cases}
-use mathlib.Core.Bool.{true}
+use mathlib.Core.Bool.{Bool, true}
 use mathlib.Core.Logic.{inl, ⊎-elim}
 use native.Mathlib.Omega.{arith}
+use lib.ListN.{length}
 use Rattle.poset.specs.Lists.{occurrences}
-use Rattle.poset.specs.Tree.{Kind, series, parallel, Tree, node, Forest, last, more, leaves, forestLeaves, joined, reversed, least, groups, alternates}
+use Rattle.poset.specs.Tree.{Kind, series, parallel, Tree, node, Forest, last, more, leaves, forestLeaves, joined, reversed, least, groups}
+use Rattle.poset.specs.Tree.{alternates, outranks, ahead}
 use Rattle.poset.proofs.Laws.{same-count-mem}
 use Rattle.poset.proofs.Shape.{Once, OnceForest, in-leaves, in-forestLeaves, forestLeaves-in}
-use Rattle.poset.proofs.Canonical.{Canon, CanonForest, Leads, least-in}
+use Rattle.poset.proofs.Canonical.{firstOf, Canon, CanonForest}
 use Rattle.poset.proofs.Meaning.{once-count}
 use Rattle.poset.proofs.Realizer.{reversed-count, forestReversed-count}
 use Rattle.record.specs.Layout.{moreChildren, hoursOf, treeBits}
@@ -76,23 +78,24 @@ forest-once (more t f) o u = once-count (node series t f) o u
 pub sound-forest : (k : Kind) (f : Forest) → OnceForest f → Sound (ofForest k f)
 sound-forest k f o = record { same = λ u. forestReversed-count f k u; once = forest-once f o; agrees = λ g h e. forest-agree g h f e }
 
--- the floor under the children of a group after one whose smallest job is m
+-- of two children, by their jobs and their smallest ones, the one may come ahead of the other; of a child of a chain nothing is kept for that
 
-abbrev pub floorAfter : Kind → ℕ → ℕ
-floorAfter series m = 0
-floorAfter parallel m = m + 1
+abbrev pub goesAhead : Kind → ℕ → ℕ → ℕ → ℕ → Bool
+goesAhead series m x n y = true
+goesAhead parallel m x n y = outranks m x n y
 
-pub leads-above : (k : Kind) (t : Tree) (f : Forest) → Leads k t f → (u : ℕ) → List·Memᴰ u (forestLeaves f) → floorAfter k (least t) ≤ u
-leads-above series t f l u m = omega arith
-leads-above parallel t f l u m = omega (arith, l u (forestLeaves-in f m))
+abbrev pub kept : Kind → ℕ → ℕ
+kept series m = 0
+kept parallel m = m
 
-above-leads : (k : Kind) (t : Tree) (f : Forest) → ((u : ℕ) → List·Memᴰ u (forestLeaves f) → floorAfter k (least t) ≤ u) → Leads k t f
-above-leads series t f h = tt
-above-leads parallel t f h = λ u i. omega (arith, h u (in-forestLeaves f i))
+abbrev pub Follows : Kind → ℕ → ℕ → Tree → Type 0
+Follows k m x t = goesAhead k m x (length (leaves t)) (least t) ≡ true
 
-floor-steps : (k : Kind) (a b u : ℕ) → floorAfter k a ≤ b → floorAfter k b ≤ u → floorAfter k a ≤ u
-floor-steps series a b u p q = omega arith
-floor-steps parallel a b u p q = omega arith
+pub kept-ahead : (k : Kind) (s t : Tree) (m x : ℕ) → m ≡ length (leaves s) → x ≡ least s
+    → goesAhead k (kept k m) (kept k x) (length (leaves t)) (least t) ≡ ahead k s t
+unfolding ahead
+kept-ahead series s t m x p q = refl
+kept-ahead parallel s t m x p q = ap₂ (λ (a b : ℕ). outranks a b (length (leaves t)) (least t)) p q
 
 -- a forest with one tree more behind it
 
@@ -121,23 +124,15 @@ pub snoc-last : (f : Forest) (t : Tree) → lastOf (snoc f t) ≡ t
 snoc-last (last s) t = refl
 snoc-last (more s f) t = snoc-last f t
 
-last-in : (f : Forest) → List·Memᴰ (least (lastOf f)) (forestLeaves f)
-unfolding leaves
-last-in (last s) = in-leaves s (least-in s)
-last-in (more s f) = Memᴰ·append-right (leaves s) (last-in f)
+snoc-first : (f : Forest) (t : Tree) → firstOf (snoc f t) ≡ firstOf f
+snoc-first (last s) t = refl
+snoc-first (more s f) t = refl
 
-module _ (k : Kind) (t : Tree) (under : alternates k t ≡ true) (canon : Canon t) where
-  leads-snoc : (s : Tree) (f : Forest) → Leads k s f → ((u : ℕ) → List·Memᴰ u (leaves t) → floorAfter k (least (lastOf f)) ≤ u) → Leads k s (snoc f t)
-  leads-snoc s f leads above = above-leads k s (snoc f t) λ u m.
-      ⊎-elim
-      (λ (i : List·Memᴰ u (forestLeaves f)). leads-above k s f leads u i)
-      (λ (i : List·Memᴰ u (leaves t)). floor-steps k (least s) (least (lastOf f)) u (leads-above k s f leads _ (last-in f)) (above u i))
-      (List·Memᴰ·append-cases (forestLeaves f) (subst (λ (l : List ℕ). List·Memᴰ u l) (snoc-leaves f t) m))
-
-  pub canon-snoc : (f : Forest) → CanonForest k f → ((u : ℕ) → List·Memᴰ u (leaves t) → floorAfter k (least (lastOf f)) ≤ u) → CanonForest k (snoc f t)
-  unfolding leaves
-  canon-snoc (last s) c above = (c .0, c .1, (under, canon), above-leads k s (last t) above)
-  canon-snoc (more s f) c above = (c .0, c .1, canon-snoc f (c .2) above, leads-snoc s f (c .3) above)
+pub canon-snoc : (k : Kind) (t : Tree) → alternates k t ≡ true → Canon t → (f : Forest) → CanonForest k f → ahead k (lastOf f) t ≡ true
+    → CanonForest k (snoc f t)
+canon-snoc k t under canon (last s) c h = (c .0, c .1, (under, canon), h)
+canon-snoc k t under canon (more s f) c h =
+    (c .0, c .1, canon-snoc k t under canon f (c .2) h, ap (ahead k s) (snoc-first f t) ∙ c .3)
 
 pub once-snoc : (f : Forest) (t : Tree) → OnceForest f → Once t → ((u : ℕ) → List·Memᴰ u (forestLeaves f) → List·Memᴰ u (leaves t) → ⊥)
     → OnceForest (snoc f t)

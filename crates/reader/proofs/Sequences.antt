@@ -50,7 +50,7 @@ mutual
       ∙ ap₂ _+_ (length-reversed t) (length-forestReversed k f)
       ∙ sym (length-append (leaves t) (forestLeaves f))
 
-module _ {bs : List ℕ} {n : ℕ} {w v : Lists} {p : Part} (t : Tree) (few : n ≤ 128) (all : p .done ≡ n) (free : Free n 0 0 0 (w .seen) (ofTree t))
+module _ {bs : List ℕ} {n : ℕ} {w v : Lists} {p : Part} (t : Tree) (few : n ≤ 128) (all : p .done ≡ n) (free : Free n 0 0 (w .seen) (ofTree t))
     (placed : Placed bs 0 0 w v p (ofTree t)) where
   pub forward-leaves : w .forward ≡ replicate 128 0 → v .forward ≡ padded (leaves t)
   forward-leaves e =

@@ -104,7 +104,7 @@ begun forward next hours = record { seen = replicate 128 0; forward = forward; n
 -- a count, and the tree after it, if one was read
 module _ (bytes : List ℕ) (m : ℕ) (count : FieldAt (bitsOf bytes) 0 7 m) (forward next entries : List ℕ)
     (blank : Blank forward next entries) (v : Lists) (p : Part)
-    (r : Found ofTree Plain (bitsOf bytes) (m + 1) 0 0 0 (begun forward next entries) v p) where
+    (r : Found ofTree Plain (bitsOf bytes) (m + 1) 0 0 (begun forward next entries) v p) where
   few : m + 1 ≤ 128
   few = let small : m < 128 = count .small in omega arith
 
@@ -118,10 +118,9 @@ module _ (bytes : List ℕ) (m : ℕ) (count : FieldAt (bitsOf bytes) 0 7 m) (fo
         at-same (bits 7 (n - 1)) (bits 7 m) (length-bits 7 (n - 1) ∙ sym (length-bits 7 m)) (spelt .count-at) (count .stands) in
         omega (arith, bits-injective 7 (n - 1) m (omega (arith, q .most)) (count .small) same, q .least)
 
-    free : Free (m + 1) 0 0 0 (replicate 128 0) (ofTree t)
+    free : Free (m + 1) 0 0 (replicate 128 0) (ofTree t)
     free = record {
       inside = λ u i. omega (arith, same-count, leaves-below n t (q .spans) u i);
-      above = λ u i. omega arith;
       unseen = λ u i. getD-replicate 128 u 0 0 (omega (arith, q .most, leaves-below n t (q .spans) u i));
       room = omega (arith, same-count, length-leaves n t (q .spans));
       fewer = omega (arith, same-count, length-leaves n t (q .spans), groups-lt t);

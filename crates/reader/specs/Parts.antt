@@ -73,10 +73,9 @@ pub record Ready (bytes : List ℕ) (n done gone : ℕ) (seen next hours : List 
   pub entries : length hours ≡ 128
   pub low : AllBelow (2 ^ hoursBits) hours
 
--- the jobs are below n, none is below the floor or marked; with those named so far they are at most n, and the groups fewer than n
-pub record Free (n floor done gone : ℕ) (seen : List ℕ) (x : Piece) : Type 0 where
+-- the jobs are below n, none is marked; with those named so far they are at most n, and the groups fewer than n
+pub record Free (n done gone : ℕ) (seen : List ℕ) (x : Piece) : Type 0 where
   pub inside : (u : ℕ) → List·Memᴰ u (x .forth) → u < n
-  pub above : (u : ℕ) → List·Memᴰ u (x .forth) → floor ≤ u
   pub unseen : (u : ℕ) → List·Memᴰ u (x .forth) → getD seen u 0 ≡ 0
   pub room : done + length (x .forth) ≤ n
   pub fewer : gone + x .inner < n
@@ -98,9 +97,9 @@ pub record Placed (bs : List ℕ) (done gone : ℕ) (w v : Lists) (p : Part) (x 
   pub entries : length (v .hours) ≡ length (w .hours)
 
 -- a reader found the one x that may stand there and does, or there is none, whatever the hours
-pub record Found {X : Type 0} (piece : X → Piece) (May : X → Type 0) (bs : List ℕ) (n floor done gone : ℕ) (w v : Lists) (p : Part) : Type 0 where
-  pub some : p .ok ≡ true → (x : X) × May x × Free n floor done gone (w .seen) (piece x) × Placed bs done gone w v p (piece x)
-  pub none : p .ok ≡ false → (x : X) → May x → Free n floor done gone (w .seen) (piece x)
+pub record Found {X : Type 0} (piece : X → Piece) (May : X → Type 0) (bs : List ℕ) (n done gone : ℕ) (w v : Lists) (p : Part) : Type 0 where
+  pub some : p .ok ≡ true → (x : X) × May x × Free n done gone (w .seen) (piece x) × Placed bs done gone w v p (piece x)
+  pub none : p .ok ≡ false → (x : X) → May x → Free n done gone (w .seen) (piece x)
       → (hours : List ℕ) → AllBelow (2 ^ hoursBits) hours → At bs (place done gone) (piece x .spelt hours) → ⊥
 
 -- any tree in canonical form, and one that may stand in a group of kind k
@@ -123,17 +122,12 @@ abbrev pub refusedPart : Part
 refusedPart = unreadPart 0 0
 
 -- one leaf, whose job has the hours x
-pub record LeafRead (n floor job x done gone : ℕ) (seen forward hours seen' forward' hours' : List ℕ) (p : Part) : Type 0 where
+pub record LeafRead (n job x done gone : ℕ) (seen forward hours seen' forward' hours' : List ℕ) (p : Part) : Type 0 where
   pub some : p .ok ≡ true
-      → (job < n) × (floor ≤ job) × (getD seen job 0 ≡ 0) × (done < n) × (seen' ≡ set seen job 1) × (forward' ≡ set forward done job)
+      → (job < n) × (getD seen job 0 ≡ 0) × (done < n) × (seen' ≡ set seen job 1) × (forward' ≡ set forward done job)
       × (hours' ≡ set hours job x)
       × (p ≡ record { ok = true; done = done + 1; groups = gone; least = job; first = job; last = job })
-  pub none : p .ok ≡ false → job < n → floor ≤ job → getD seen job 0 ≡ 0 → done < n → ⊥
-
--- the part, unless one of its jobs is below the floor
-pub record Above (floor : ℕ) (part p : Part) : Type 0 where
-  pub some : p .ok ≡ true → (floor ≤ part .least) × (p ≡ part)
-  pub none : p .ok ≡ false → part .ok ≡ true → floor ≤ part .least → ⊥
+  pub none : p .ok ≡ false → job < n → getD seen job 0 ≡ 0 → done < n → ⊥
 
 -- the one of two parts that is ahead in the reverse sequence, and the one behind: the earlier child is ahead in a chain
 
@@ -167,22 +161,22 @@ longerNext k p q next = elim (p .ok) [ false ↦ next | true ↦ set next (front
 
 -- any tree, a child of a group of kind k, and c + 1 children of one
 
-abbrev pub TreeRead : List ℕ → (n floor done gone : ℕ) (seen forward next hours seen' forward' next' hours' : List ℕ) → Part → Type 0
-TreeRead bs n floor done gone seen forward next hours seen' forward' next' hours' =
-    Found ofTree Plain bs n floor done gone
+abbrev pub TreeRead : List ℕ → (n done gone : ℕ) (seen forward next hours seen' forward' next' hours' : List ℕ) → Part → Type 0
+TreeRead bs n done gone seen forward next hours seen' forward' next' hours' =
+    Found ofTree Plain bs n done gone
     (record { seen = seen; forward = forward; next = next; hours = hours })
     (record { seen = seen'; forward = forward'; next = next'; hours = hours' })
 
 abbrev pub ChildRead
-    : Kind → List ℕ → (n floor done gone : ℕ) (seen forward next hours seen' forward' next' hours' : List ℕ) → Part → Type 0
-ChildRead k bs n floor done gone seen forward next hours seen' forward' next' hours' =
-    Found ofTree (PlainUnder k) bs n floor done gone
+    : Kind → List ℕ → (n done gone : ℕ) (seen forward next hours seen' forward' next' hours' : List ℕ) → Part → Type 0
+ChildRead k bs n done gone seen forward next hours seen' forward' next' hours' =
+    Found ofTree (PlainUnder k) bs n done gone
     (record { seen = seen; forward = forward; next = next; hours = hours })
     (record { seen = seen'; forward = forward'; next = next'; hours = hours' })
 
 abbrev pub ChildrenRead
     : Kind → ℕ → List ℕ → (n done gone : ℕ) (seen forward next hours seen' forward' next' hours' : List ℕ) → Part → Type 0
 ChildrenRead k c bs n done gone seen forward next hours seen' forward' next' hours' =
-    Found (ofForest k) (PlainChildren k c) bs n 0 done gone
+    Found (ofForest k) (PlainChildren k c) bs n done gone
     (record { seen = seen; forward = forward; next = next; hours = hours })
     (record { seen = seen'; forward = forward'; next = next'; hours = hours' })

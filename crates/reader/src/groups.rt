@@ -4,9 +4,9 @@
 use crate::nodes::node_at;
 use crate::nodes::wide;
 use crate::parts::Part;
-use crate::parts::above;
 use crate::parts::chained;
 use crate::parts::leaf;
+use crate::parts::outranks;
 use crate::parts::refused;
 use crate::parts::sided;
 use crate::parts::unread;
@@ -75,13 +75,13 @@ fn chain_child(
     hours: &mut [u16; 128],
 ) -> Part
     requires { ⌜ Ready (now bytes) count done groups (now seen) (now next) (now hours) ⌝ }
-    ensures { λ r. ⌜ ChildRead series (bitsOf (now (bytes .entry))) count 0 done groups
+    ensures { λ r. ⌜ ChildRead series (bitsOf (now (bytes .entry))) count done groups
         (now (seen .entry)) (now (forward .entry)) (now (next .entry)) (now (hours .entry))
         (now (seen .exit)) (now (forward .exit)) (now (next .exit)) (now (hours .exit)) r ⌝ }
 {
     let node = node_at(bytes, place(done, groups));
     if node.tag == 0 {
-        return leaf(count, 0, node, done, groups, seen, forward, hours);
+        return leaf(count, node, done, groups, seen, forward, hours);
     }
     if node.tag != 2 {
         return refused();
@@ -102,7 +102,8 @@ fn chain_child(
     )
 }
 
-// `more` + 1 children of a side group, ascending by the smallest job in each.
+// `more` + 1 children of a side group, each going ahead of the next. Of the one read last it keeps how many jobs it has, at first more
+// than any child has, and the smallest.
 fn side(
     bytes: &[u8],
     count: u8,
@@ -120,13 +121,13 @@ fn side(
         (now (seen .exit)) (now (forward .exit)) (now (next .exit)) (now (hours .exit)) r ⌝ }
 {
     let mut part = unread(done, groups);
-    let mut floor = 0u8;
+    let mut size = 129u8;
+    let mut least = 0u8;
     let mut left = more + 1;
     while left > 0 {
         let child = side_child(
             bytes,
             count,
-            floor,
             part.done,
             part.groups,
             seen,
@@ -137,7 +138,12 @@ fn side(
         if !child.ok {
             return child;
         }
-        floor = child.least + 1;
+        let jobs = child.done - part.done;
+        if !outranks(size, least, jobs, child.least) {
+            return refused();
+        }
+        size = jobs;
+        least = child.least;
         let longer = sided(part, child, next);
         part = longer;
         left -= 1;
@@ -145,11 +151,10 @@ fn side(
     part
 }
 
-// A child of a side group, none of its jobs below the floor: a leaf or a chain.
+// A child of a side group: a leaf or a chain.
 fn side_child(
     bytes: &[u8],
     count: u8,
-    floor: u8,
     done: u8,
     groups: u8,
     seen: &mut [u8; 128],
@@ -158,13 +163,13 @@ fn side_child(
     hours: &mut [u16; 128],
 ) -> Part
     requires { ⌜ Ready (now bytes) count done groups (now seen) (now next) (now hours) ⌝ }
-    ensures { λ r. ⌜ ChildRead parallel (bitsOf (now (bytes .entry))) count floor done groups
+    ensures { λ r. ⌜ ChildRead parallel (bitsOf (now (bytes .entry))) count done groups
         (now (seen .entry)) (now (forward .entry)) (now (next .entry)) (now (hours .entry))
         (now (seen .exit)) (now (forward .exit)) (now (next .exit)) (now (hours .exit)) r ⌝ }
 {
     let node = node_at(bytes, place(done, groups));
     if node.tag == 0 {
-        return leaf(count, floor, node, done, groups, seen, forward, hours);
+        return leaf(count, node, done, groups, seen, forward, hours);
     }
     if node.tag != 1 {
         return refused();
@@ -172,7 +177,7 @@ fn side_child(
     if groups + 1 >= count {
         return refused();
     }
-    let part = chain(
+    chain(
         bytes,
         count,
         node.value,
@@ -182,8 +187,7 @@ fn side_child(
         forward,
         next,
         hours,
-    );
-    above(part, floor)
+    )
 }
 
 // The tree after the job count. One that is no chain is read as the only child of one, so that the side reader is called from one place.
@@ -196,7 +200,7 @@ pub fn tree(
     hours: &mut [u16; 128],
 ) -> Part
     requires { ⌜ Ready (now bytes) count 0 0 (now seen) (now next) (now hours) ⌝ }
-    ensures { λ r. ⌜ TreeRead (bitsOf (now (bytes .entry))) count 0 0 0
+    ensures { λ r. ⌜ TreeRead (bitsOf (now (bytes .entry))) count 0 0
         (now (seen .entry)) (now (forward .entry)) (now (next .entry)) (now (hours .entry))
         (now (seen .exit)) (now (forward .exit)) (now (next .exit)) (now (hours .exit)) r ⌝ }
 {

@@ -3,8 +3,8 @@ use crate::nodes::Node;
 ghost use mathlib.Core.Path.{_≡_};
 ghost use mathlib.Core.Bool.{true};
 ghost use Prim.Native.Nat.{_≤_, _<_, min};
-ghost use Rattle.poset.specs.Tree.{series, parallel};
-ghost use Rattle.reader.specs.Parts.{unreadPart, refusedPart, LeafRead, Above, longer, longerNext};
+ghost use Rattle.poset.specs.Tree.{series, parallel, outranks};
+ghost use Rattle.reader.specs.Parts.{unreadPart, refusedPart, LeafRead, longer, longerNext};
 
 // ok: whether the part is one of a record. done, groups: the leaves and the groups of the record up to its end. least: its smallest
 // job. first, last: the ends of its part of the reverse sequence.
@@ -37,10 +37,9 @@ pub fn refused() -> Part
     unread(0, 0)
 }
 
-// A leaf after `done` others: its job is below the count, not below the floor, and named for the first time.
+// A leaf after `done` others: its job is below the count, and named for the first time.
 pub fn leaf(
     count: u8,
-    floor: u8,
     node: Node,
     done: u8,
     groups: u8,
@@ -49,14 +48,11 @@ pub fn leaf(
     hours: &mut [u16; 128],
 ) -> Part
     requires { ⌜ (count ≤ 128) ⌝ }
-    ensures { λ r. ⌜ LeafRead count floor (node .value) (node .hours) done groups (now (seen .entry)) (now (forward .entry)) (now (hours .entry))
+    ensures { λ r. ⌜ LeafRead count (node .value) (node .hours) done groups (now (seen .entry)) (now (forward .entry)) (now (hours .entry))
         (now (seen .exit)) (now (forward .exit)) (now (hours .exit)) r ⌝ }
 {
     let job = node.value;
     if job >= count {
-        return refused();
-    }
-    if job < floor {
         return refused();
     }
     if done >= count {
@@ -80,14 +76,15 @@ pub fn leaf(
     }
 }
 
-// The part, unless its smallest job is below the floor.
-pub fn above(part: Part, floor: u8) -> Part
-    ensures { λ r. ⌜ Above floor part r ⌝ }
+// Whether a child of a side group with so many jobs and this smallest one goes ahead of the next: most jobs first, of as many by the smallest.
+pub fn outranks(size: u8, least: u8, jobs: u8, smallest: u8) -> bool
+    ensures { λ r. ⌜ r ≡ outranks size least jobs smallest ⌝ }
 {
-    if part.least < floor {
-        return refused();
+    if size == jobs {
+        least < smallest
+    } else {
+        jobs < size
     }
-    part
 }
 
 fn smaller(a: u8, b: u8) -> u8

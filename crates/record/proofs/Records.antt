@@ -2,7 +2,7 @@
 use Prim.Native.Nat.{ℕ, suc, _+_, _-_, _*_, _/_, _^_, _≤_, _<_}
 use mathlib.Core.Path.{_≡_, sym, ap, ap₂, subst, _∙_}
 use mathlib.Core.List.{List, _++_, map, append-assoc, Memᴰ·of-map}
-use mathlib.Core.Bool.{Bool, true, _&&_}
+use mathlib.Core.Bool.{Bool, true, _&&_, and-true}
 use mathlib.Core.Option.{none, some, bind, Option·some-injective}
 use mathlib.Core.Logic.{_↔_, ⊎-elim}
 use native.Mathlib.Decide.{decLt}
@@ -10,7 +10,7 @@ use native.Mathlib.Omega.{arith}
 use lib.ListN.{length, length-append, replicate}
 use Rattle.poset.specs.Lists.{occurrences, below, onlyIf}
 use Rattle.poset.specs.Tree.{Tree, leaves, groups, Spans, canonical}
-use Rattle.poset.proofs.Laws.{and-left, and-right, and-intro, only-if-some, found-or-none, found-clash, count-mem, count-zero, mem-below}
+use Rattle.poset.proofs.Laws.{and-left, and-right, only-if-some, found-or-none, found-clash, count-mem, count-zero, mem-below}
 use Rattle.record.specs.Bits.{AllBelow, bits, bitsOf}
 use Rattle.record.specs.Layout.{hoursBits, leafBits, recordRoom, hoursOf, treeBits, layout, IsRecord}
 use Rattle.record.specs.Decode.{readBits, readTree, fills, spanning, beside, decode}
@@ -101,11 +101,11 @@ module _ (n : ℕ) (t : Tree) (s : Spans n t) where
       (λ j m. made (λ i. beside i (leaves t) hs) n j (leaves-below n t s j m))
       ∙ beside-each (leaves t) hs leaf-few e
 
-pub decode-layout
-    : (n : ℕ) (hours : List ℕ) (t : Tree) → 0 < n → n ≤ 128 → Spans n t → canonical t ≡ true → length hours ≡ n → AllBelow (2 ^ hoursBits) hours
-    → decode (layout n hours t) ≡ some (n, t, hours)
-unfolding onlyIf
-decode-layout n hours t p l s c each low =
+-- the layout of a tree, canonical or not
+pub decode-any
+    : (n : ℕ) (hours : List ℕ) (t : Tree) → 0 < n → n ≤ 128 → Spans n t → length hours ≡ n → AllBelow (2 ^ hoursBits) hours
+    → decode (layout n hours t) ≡ onlyIf (canonical t) (n, t, hours)
+decode-any n hours t p l s each low =
     let f = layout-filled n hours t in
     let zeros : List ℕ = replicate (f .fill) 0 in
     let one-less : suc (n - 1) ≡ n = omega arith in
@@ -115,9 +115,14 @@ decode-layout n hours t p l s c each low =
     (ap (readBits 7) (f .same ∙ append-assoc (bits 7 (n - 1)) (treeBits hours t) zeros) ∙ read-back 7 (n - 1) (treeBits hours t ++ zeros) (omega arith))
     (read-tree hours low t (length (treeBits hours t ++ zeros)) (spans-small n t l s) enough zeros)
     ∙ ap₂ onlyIf
-    (and-intro (fills zeros) (canonical t && spanning (suc (n - 1)) t) (fills-zeros (f .fill) (f .few))
-    (and-intro (canonical t) (spanning (suc (n - 1)) t) c (rw one-less (spanning-spans n t .1 s))))
+    (ap₂ (λ (a b : Bool). a && (canonical t && b)) (fills-zeros (f .fill) (f .few)) (rw one-less (spanning-spans n t .1 s)) ∙ and-true (canonical t))
     (ap (λ (k : ℕ). (k, t, byJob k t (leafHours hours (leaves t)))) one-less ∙ ap (λ (x : List ℕ). (n, t, x)) (by-job n t s hours each))
+
+pub decode-layout
+    : (n : ℕ) (hours : List ℕ) (t : Tree) → 0 < n → n ≤ 128 → Spans n t → canonical t ≡ true → length hours ≡ n → AllBelow (2 ^ hoursBits) hours
+    → decode (layout n hours t) ≡ some (n, t, hours)
+unfolding onlyIf
+decode-layout n hours t p l s c each low = decode-any n hours t p l s each low ∙ ap (λ (b : Bool). onlyIf b (n, t, hours)) c
 
 -- and back
 

@@ -1,18 +1,21 @@
 -- All that this crate promises. Each theorem is stated in full and cited.
 use Prim.Native.Nat.{ℕ, _+_, _*_, _/_, _^_, _≤_, _<_}
 use mathlib.Core.Path.{_≡_}
-use mathlib.Core.List.{List, map}
-use mathlib.Core.Bool.{true}
+use mathlib.Core.List.{List, [], _∷_, map}
+use mathlib.Core.Bool.{true, false}
 use mathlib.Core.Option.{none, some}
 use mathlib.Core.Logic.{_↔_}
 use lib.ListN.{length}
+use Rattle.poset.specs.Lists.{onlyIf}
 use Rattle.poset.specs.Tree.{Tree, groups, Spans, canonical}
 use Rattle.record.specs.Bits.{AllBelow}
 use Rattle.record.specs.Layout.{hoursBits, leafBits, recordRoom, layout, IsRecord}
 use Rattle.record.specs.Decode.{decode}
 use Rattle.record.proofs.Records
+use Rattle.record.proofs.Former
+use Rattle.record.proofs.Former.{formerlyCanonical, WasRecord}
 use Rattle.record.proofs.Examples
-use Rattle.record.proofs.Examples.{Example, examples}
+use Rattle.record.proofs.Examples.{Example, examples, largest-first, smallest-first}
 
 -- the decoder gives a canonical tree on 1 to 128 jobs and their hours back from the layout
 pub decode-layout
@@ -33,6 +36,17 @@ decode-record = Records.decode-record
 pub decode-none
     : (bytes : List ℕ) → AllBelow 256 bytes → (decode bytes ≡ none) ↔ ((n : ℕ) (t : Tree) (hours : List ℕ) → IsRecord bytes n t hours → ⊥)
 decode-none = Records.decode-none
+
+-- the layout of any tree decodes exactly where the tree is canonical; so a record of the former plain form is a record exactly where its tree is in this one,
+-- and then of the same tree, jobs and hours
+
+pub decode-any
+    : (n : ℕ) (hours : List ℕ) (t : Tree) → 0 < n → n ≤ 128 → Spans n t → length hours ≡ n → AllBelow (2 ^ hoursBits) hours
+    → decode (layout n hours t) ≡ onlyIf (canonical t) (n, t, hours)
+decode-any = Records.decode-any
+
+pub former-decode : (bytes : List ℕ) (n : ℕ) (t : Tree) (hours : List ℕ) → WasRecord bytes n t hours → decode bytes ≡ onlyIf (canonical t) (n, t, hours)
+former-decode = Former.former-decode
 
 -- no bytes are the record of two trees, at two job counts, or with two lists of hours
 pub layout-injective
@@ -57,3 +71,13 @@ layout-below = Records.layout-below
 -- records of document 01 with hours of 0 at each leaf, one with other hours, and bytes that are none
 pub decoded : map (λ (e : Example). decode (e .0)) examples ≡ map (λ (e : Example). e .1) examples
 decoded = Examples.decoded
+
+-- the two plain forms told apart, and a record of the former one
+pub told-apart
+    : (canonical largest-first ≡ true) × (formerlyCanonical largest-first ≡ false) × (canonical smallest-first ≡ false)
+    × (formerlyCanonical smallest-first ≡ true)
+told-apart = Examples.told-apart
+
+pub was-record
+    : WasRecord (0x05 ∷ 0x81 ∷ 0x00 ∷ 0x00 ∷ 0x08 ∷ 0x08 ∷ 0x08 ∷ 0x00 ∷ 0x01 ∷ 0x00 ∷ 0x00 ∷ []) 3 smallest-first (0 ∷ 0 ∷ 0 ∷ [])
+was-record = Examples.was-record

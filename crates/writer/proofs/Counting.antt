@@ -1,14 +1,20 @@
 -- How many jobs sets have.
 use Prim.Native.Nat.{ℕ, _+_, _≤_, _<_}
-use mathlib.Core.Path.{_≡_, refl, ap, ap₂, _∙_}
-use mathlib.Core.List.{List, []}
+use mathlib.Core.Path.{_≡_, refl, sym, ap, ap₂, subst, _∙_}
+use mathlib.Core.List.{List}
 use mathlib.Core.Bool.{Bool, true, false, _&&_, _||_, not}
+use native.Mathlib.Decide.{decLt}
 use native.Mathlib.Omega.{arith}
+use lib.Dec.{eqb}
 use lib.ListN.{length}
 use Rattle.poset.specs.Lists.{exists, sum, below}
-use Rattle.poset.proofs.Laws.{clash, any-none, mem-below, below-mem}
-use Rattle.poset.proofs.Sums.{length-keep, bit, sum-gap, sum-add}
+use Rattle.poset.proofs.Laws.{clash, eqb-true, eqb-same, any-hit, any-none, mem-below, below-mem}
+use Rattle.poset.proofs.Sums.{length-keep, length-keep-le, length-below, bit, sum-gap, sum-zero, sum-agree, sum-add, sum-one}
 use Rattle.relation.specs.Table.{has, members, Least}
+
+pub few-members : (s : List ℕ) → length (members s) ≤ 128
+unfolding members
+few-members s = omega (arith, length-keep-le (has s) (below 128), length-below 128)
 
 -- how many jobs two sets have together
 count-two : (a b : List ℕ) → length (members a) + length (members b) ≡ sum (λ v. bit (has a v) + bit (has b v)) (below 128)
@@ -20,46 +26,70 @@ bit-le : (a b : Bool) → (a ≡ true → b ≡ true) → bit a ≤ bit b
 bit-le true b h = omega (arith, ap bit (h refl))
 bit-le false b h = omega arith
 
-pub two-fall : (a b c d : List ℕ) (y : ℕ) → y < 128 → ((v : ℕ) → bit (has c v) + bit (has d v) ≤ bit (has a v) + bit (has b v))
-    → bit (has c y) + bit (has d y) < bit (has a y) + bit (has b y)
-    → length (members c) + length (members d) < length (members a) + length (members b)
-two-fall a b c d y small h l =
-    omega (
-      arith,
-      count-two a b,
-      count-two c d,
-      sum-gap (λ v. bit (has c v) + bit (has d v)) (λ v. bit (has a v) + bit (has b v)) 1 (λ v m. h v) (below-mem small) (omega arith),
-    )
-
 -- a set within another that lacks one of its jobs
 pub set-falls : (a b : List ℕ) (y : ℕ) → y < 128 → has a y ≡ true → has b y ≡ false → ((v : ℕ) → has b v ≡ true → has a v ≡ true)
     → length (members b) < length (members a)
+unfolding members
 set-falls a b y small p q within =
-    omega (arith, two-fall a [] b [] y small (λ v. omega (arith, bit-le (has b v) (has a v) (within v))) (omega (arith, ap bit p, ap bit q)))
+    omega (
+      arith,
+      length-keep (has a) (below 128),
+      length-keep (has b) (below 128),
+      sum-gap (λ v. bit (has b v)) (λ v. bit (has a v)) 1 (λ v m. bit-le (has b v) (has a v) (within v)) (below-mem small) (omega (arith, ap bit p, ap bit q)),
+    )
 
--- one step of a search, job by job: t to look at, r not found, n near, a with a smaller one to look at
-step-le : (t a n r : Bool) → (t ≡ true → r ≡ false) → bit ((t && a) || (n && r)) + bit (r && not (n && r)) ≤ bit t + bit r
-step-le true a n true h = absurd (clash refl (h refl))
-step-le true true true false h = omega arith
-step-le true true false false h = omega arith
-step-le true false true false h = omega arith
-step-le true false false false h = omega arith
-step-le false a true true h = omega arith
-step-le false a true false h = omega arith
-step-le false a false true h = omega arith
-step-le false a false false h = omega arith
+-- an empty set
+pub none-jobs : (s : List ℕ) → ((v : ℕ) → has s v ≡ false) → length (members s) ≡ 0
+unfolding members
+none-jobs s none = length-keep (has s) (below 128) ∙ sum-zero (λ v. bit (has s v)) (below 128) (λ v m. ap bit (none v))
 
-step-lt : (n : Bool) → bit ((true && false) || (n && false)) + bit (false && not (n && false)) < bit true + bit false
-step-lt true = omega arith
-step-lt false = omega arith
+-- a set and what it is cut into
+pub cut-size : (s part rest : List ℕ) → ((v : ℕ) → has rest v ≡ true → has s v ≡ true) → ((v : ℕ) → has part v ≡ (has s v && not (has rest v)))
+    → length (members part) + length (members rest) ≡ length (members s)
+unfolding members
+cut-size s part rest within p =
+    count-two part rest
+    ∙ sum-agree (λ v. bit (has part v) + bit (has rest v)) (λ v. bit (has s v)) (below 128)
+    (λ v m. ap (λ (b : Bool). bit b + bit (has rest v)) (p v) ∙ cut-bits (has s v) (has rest v) (within v))
+    ∙ sym (length-keep (has s) (below 128))
+  where
+    cut-bits : (a b : Bool) → (b ≡ true → a ≡ true) → bit (a && not b) + bit b ≡ bit a
+    cut-bits true true h = refl
+    cut-bits true false h = refl
+    cut-bits false true h = absurd (clash (h refl) refl)
+    cut-bits false false h = refl
 
--- a search has fewer jobs before it after each step
-pub search-falls : (near : ℕ → Bool) (todo rest found others more fewer : List ℕ) (y : ℕ) → Least todo y
+-- one step of a search, job by job: t to look at, r not found, n near, a with a smaller one to look at, e the one that is looked at
+step-same : (t a n r e : Bool) → (t ≡ true → r ≡ false) → (e ≡ true → (t ≡ true) × (a ≡ false)) → (e ≡ false → t ≡ true → a ≡ true)
+    → (bit ((t && a) || (n && r)) + bit (r && not (n && r))) + bit e ≡ bit t + bit r
+step-same true a n true e h p q = absurd (clash refl (h refl))
+step-same true true n false true h p q = absurd (clash refl (p refl .1))
+step-same true false n false false h p q = absurd (clash (q refl refl) refl)
+step-same true true true false false h p q = refl
+step-same true true false false false h p q = refl
+step-same true false true false true h p q = refl
+step-same true false false false true h p q = refl
+step-same false a n r true h p q = absurd (clash (p refl .0) refl)
+step-same false a true true false h p q = refl
+step-same false a true false false h p q = refl
+step-same false a false true false h p q = refl
+step-same false a false false false h p q = refl
+
+-- a search has one job fewer before it after each step
+pub search-counts : (near : ℕ → Bool) (todo rest found others more fewer : List ℕ) (y : ℕ) → Least todo y
     → ((v : ℕ) → has todo v ≡ true → has rest v ≡ false) → ((v : ℕ) → has found v ≡ (near v && has rest v))
     → ((v : ℕ) → has others v ≡ (has todo v && exists (has todo) (below v))) → ((v : ℕ) → has more v ≡ (has others v || has found v))
     → ((v : ℕ) → has fewer v ≡ (has rest v && not (has found v)))
-    → length (members more) + length (members fewer) < length (members todo) + length (members rest)
-search-falls near todo rest found others more fewer y least apart f o m w = two-fall todo rest more fewer y (least .small) all here
+    → (length (members more) + length (members fewer)) + 1 ≡ length (members todo) + length (members rest)
+search-counts near todo rest found others more fewer y least apart f o m w =
+    omega (
+      arith,
+      count-two more fewer,
+      count-two todo rest,
+      sum-one 1 y 128 (least .small),
+      sum-add (λ v. bit (has more v) + bit (has fewer v)) (λ v. bit (eqb y v)) (below 128),
+      sum-agree (λ v. (bit (has more v) + bit (has fewer v)) + bit (eqb y v)) (λ v. bit (has todo v) + bit (has rest v)) (below 128) (λ v _. all v),
+    )
   where
     is-more : (v : ℕ) → has more v ≡ ((has todo v && exists (has todo) (below v)) || (near v && has rest v))
     is-more v = m v ∙ ap₂ _||_ (o v) (f v)
@@ -67,11 +97,20 @@ search-falls near todo rest found others more fewer y least apart f o m w = two-
     is-fewer : (v : ℕ) → has fewer v ≡ (has rest v && not (near v && has rest v))
     is-fewer v = w v ∙ ap (λ b. has rest v && not b) (f v)
 
-    all : (v : ℕ) → bit (has more v) + bit (has fewer v) ≤ bit (has todo v) + bit (has rest v)
-    all v = rw (is-more v, is-fewer v) (step-le (has todo v) (exists (has todo) (below v)) (near v) (has rest v) (apart v))
+    this : (v : ℕ) → eqb y v ≡ true → (has todo v ≡ true) × (exists (has todo) (below v) ≡ false)
+    this v e =
+        subst (λ (u : ℕ). (has todo u ≡ true) × (exists (has todo) (below u) ≡ false)) (eqb-true y v e)
+        (least .member, any-none (has todo) (below y) (λ u k. least .least u (mem-below y k)))
 
-    nothing : exists (has todo) (below y) ≡ false
-    nothing = any-none (has todo) (below y) (λ v k. least .least v (mem-below y k))
+    another : (v : ℕ) → eqb y v ≡ false → has todo v ≡ true → exists (has todo) (below v) ≡ true
+    another v e t =
+        let differ : y ≡ v → ⊥ = λ q. clash (ap (eqb y) (sym q) ∙ eqb-same y) e in
+        elim (decLt y v) [
+          | yes l ↦ any-hit (has todo) (below-mem l) (least .member)
+          | no l ↦ absurd (clash t (least .least v (omega arith)))
+        ]
 
-    here : bit (has more y) + bit (has fewer y) < bit (has todo y) + bit (has rest y)
-    here = rw (is-more y, is-fewer y, least .member, apart y (least .member), nothing) (step-lt (near y))
+    all : (v : ℕ) → (bit (has more v) + bit (has fewer v)) + bit (eqb y v) ≡ bit (has todo v) + bit (has rest v)
+    all v =
+        rw (is-more v, is-fewer v)
+        (step-same (has todo v) (exists (has todo) (below v)) (near v) (has rest v) (eqb y v) (apart v) (this v) (another v))

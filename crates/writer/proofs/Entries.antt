@@ -2,21 +2,24 @@
 use Prim.Native.Nat.{ℕ, zero, suc, _+_, _-_, _≤_, _<_}
 use mathlib.Core.Path.{_≡_, refl, sym, ap, ap₂, subst, _∙_}
 use mathlib.Core.List.{List, [], _∷_, _++_, map, List·Memᴰ, List·Memᴰ·head, List·Memᴰ·tail}
-use mathlib.Core.Bool.{Bool, true, false, _&&_, not, Bool·not-not}
-use mathlib.Core.Logic.{_⊎_, inl, inr}
+use mathlib.Core.Bool.{Bool, true, false, not, Bool·not-not}
+use mathlib.Core.Logic.{_⊎_, ⊎-elim}
 use native.Mathlib.Omega.{arith}
 use lib.ListN.{length}
-use Rattle.poset.specs.Lists.{sum, below}
+use Rattle.poset.specs.Lists.{sum}
 use Rattle.poset.specs.Order.{Rel}
 use Rattle.poset.specs.Tree.{series, parallel}
+use Rattle.poset.specs.Decompose.{placed, arranged}
 use Rattle.poset.proofs.Laws.{decided, and-left}
-use Rattle.poset.proofs.Sums.{length-keep, bit, sum-add}
+use Rattle.poset.proofs.Laying.{Each, placed-yes, placed-not, arranged-each}
+use Rattle.poset.proofs.Sums.{sum-const}
 use Rattle.relation.specs.Table.{has, members}
 use Rattle.record.specs.Layout.{kindBit}
 use Rattle.record.specs.Tokens.{groupToken}
-use Rattle.writer.specs.Parts.{Walk, Splits, closeOf}
+use Rattle.writer.specs.Parts.{Walk, Splits, bigger, laidOut, closeOf}
 use Rattle.writer.specs.Stack.{Entry, entries, jobsOf, startAt, spreadOut, groupField}
 use Rattle.writer.proofs.Worklist.{Pending, spread, total}
+use Rattle.writer.proofs.Counting.{none-jobs, cut-size}
 use Rattle.writer.proofs.Groups.{kindOf, members-of}
 
 -- a set whose jobs are all joined to one of them
@@ -93,64 +96,70 @@ unfolding kindBit
 field-token true m = refl
 field-token false m = refl
 
--- a set and what is left of it
-two-jobs : (s part rest : List ℕ) → ((v : ℕ) → has part v ≡ true → has s v ≡ true) → ((v : ℕ) → has rest v ≡ (has s v && not (has part v)))
-    → length (members s) ≡ length (members part) + length (members rest)
-unfolding members
-two-jobs s part rest within f =
-    omega (
-      arith,
-      length-keep (has s) (below 128),
-      length-keep (has part) (below 128),
-      length-keep (has rest) (below 128),
-      sum-add (λ v. bit (has part v)) (λ v. bit (has rest v)) (below 128),
-      sum-same (λ v. bit (has s v)) (λ v. bit (has part v) + bit (has rest v)) (below 128) (λ v. one-of v (decided (has part v)) (decided (has s v))),
-    )
-  where
-    sum-same : (g h : ℕ → ℕ) (xs : List ℕ) → ((v : ℕ) → g v ≡ h v) → sum g xs ≡ sum h xs
-    sum-same g h [] e = refl
-    sum-same g h (x ∷ xs) e = omega (arith, e x, sum-same g h xs e)
-
-    value : (v : ℕ) (a b : Bool) → has s v ≡ a → has part v ≡ b → bit (has s v) ≡ bit a
-    value v a b p q = ap bit p
-
-    one-of : (v : ℕ) → (has part v ≡ true) ⊎ (has part v ≡ false) → (has s v ≡ true) ⊎ (has s v ≡ false) → bit (has s v) ≡ bit (has part v) + bit (has rest v)
-    one-of v (inl p) q = omega (arith, ap bit (within v p), ap bit p, ap bit (f v ∙ ap₂ (λ a b. a && not b) (within v p) p))
-    one-of v (inr p) (inl q) = omega (arith, ap bit q, ap bit p, ap bit (f v ∙ ap₂ (λ a b. a && not b) q p))
-    one-of v (inr p) (inr q) = omega (arith, ap bit q, ap bit p, ap bit (f v ∙ ap₂ (λ a b. a && not b) q p))
-
-pub none-jobs : (s : List ℕ) → ((v : ℕ) → has s v ≡ false) → length (members s) ≡ 0
-unfolding members
-none-jobs s none = omega (arith, length-keep (has s) (below 128), zeros (below 128))
-  where
-    zeros : (xs : List ℕ) → sum (λ v. bit (has s v)) xs ≡ 0
-    zeros [] = refl
-    zeros (x ∷ xs) = omega (arith, ap bit (none x), zeros xs)
-
 -- parts have the jobs of their set
 pub splits-jobs : (close under : Rel) (flag : Bool) (ps : List (List ℕ)) (s : List ℕ) → Splits close under flag s ps → jobsOf ps ≡ length (members s)
 splits-jobs close under flag [] s h = sym (none-jobs s h)
 splits-jobs close under flag (p ∷ ps) s (x, rest, at, part, f, h) =
-    omega (arith, splits-jobs close under flag ps rest h, two-jobs s p rest (part .within) f)
+    omega (arith, splits-jobs close under flag ps rest h, cut-size s rest p (part .within) f)
 
 mem-length : {y : ℕ} {xs : List ℕ} → List·Memᴰ y xs → 0 < length xs
 mem-length (List·Memᴰ·head e) = omega arith
 mem-length (List·Memᴰ·tail m) = omega arith
 
--- and are entries of the group
-pub splits-every : (n : ℕ) (tied free under : Rel) (flag : Bool) (start whole : ℕ) → start + whole ≤ n → (ps : List (List ℕ)) (s : List ℕ)
-    → ((v : ℕ) → has s v ≡ true → v < n) → n ≤ 128 → Splits (closeOf flag tied free) under flag s ps → jobsOf ps ≤ whole
-    → Every n tied free (spreadOut flag start whole ps)
-splits-every n tied free under flag start whole room [] s small few h fit = tt
-splits-every n tied free under flag start whole room (p ∷ ps) s small few (x, rest, at, part, f, h) fit = (
+-- in whatever order they are laid out
+
+placed-sum : (test : List ℕ → List ℕ → Bool) (w : List ℕ → ℕ) (p : List ℕ) (ps : List (List ℕ)) → sum w (placed test p ps) ≡ w p + sum w ps
+unfolding placed
+placed-sum test w p [] = refl
+placed-sum test w p (q ∷ qs) =
+    ⊎-elim
+    (λ e. ap (sum w) (placed-yes test p q qs e))
+    (λ e. omega (arith, ap (sum w) (placed-not test p q qs e), placed-sum test w p qs))
+    (decided (test p q))
+
+pub laid-sum : (flag : Bool) (w : List ℕ → ℕ) (ps : List (List ℕ)) → sum w (laidOut flag ps) ≡ sum w ps
+unfolding arranged
+laid-sum true w ps = refl
+laid-sum false w [] = refl
+laid-sum false w (p ∷ ps) = omega (arith, placed-sum bigger w p (arranged bigger ps), laid-sum false w ps)
+
+pub laid-count : (flag : Bool) (ps : List (List ℕ)) → length (laidOut flag ps) ≡ length ps
+laid-count flag ps = omega (arith, sum-const 1 (laidOut flag ps), sum-const 1 ps, laid-sum flag (λ p. 1) ps)
+
+pub laid-each : (flag : Bool) (P : List ℕ → Type 0) (ps : List (List ℕ)) → Each P ps → Each P (laidOut flag ps)
+laid-each true P ps h = h
+laid-each false P ps h = arranged-each bigger P ps h
+
+-- they are entries of the group
+
+pub record PartOk (n : ℕ) (close : Rel) (p : List ℕ) : Type 0 where
+  pub some : 0 < length (members p)
+  pub small : (v : ℕ) → has p v ≡ true → v < n
+  pub joined : JoinedBy close p
+
+pub splits-each : (n : ℕ) (close under : Rel) (flag : Bool) (ps : List (List ℕ)) (s : List ℕ) → ((v : ℕ) → has s v ≡ true → v < n) → n ≤ 128
+    → Splits close under flag s ps → Each (PartOk n close) ps
+splits-each n close under flag [] s small few h = tt
+splits-each n close under flag (p ∷ ps) s small few (x, rest, at, part, f, h) = (
   record {
     some = mem-length (members-of p x (omega (arith, small x (part .within x (part .own)))) (part .own));
     small = λ v q. small v (part .within v q);
-    joined =
-        subst (λ b. JoinedBy (closeOf b tied free) p) (sym (Bool·not-not flag)) (x, part .own, part .joined);
+    joined = (x, part .own, part .joined);
+  },
+  splits-each n close under flag ps rest (λ v q. small v (and-left (has s v) (not (has p v)) (sym (f v) ∙ q))) few h,
+)
+
+pub spread-every : (n : ℕ) (tied free : Rel) (flag : Bool) (start whole : ℕ) → start + whole ≤ n → (ps : List (List ℕ))
+    → Each (PartOk n (closeOf flag tied free)) ps → jobsOf ps ≤ whole → Every n tied free (spreadOut flag start whole ps)
+spread-every n tied free flag start whole room [] ok fit = tt
+spread-every n tied free flag start whole room (p ∷ ps) ok fit = (
+  record {
+    some = ok .0 .some;
+    small = ok .0 .small;
+    joined = subst (λ b. JoinedBy (closeOf b tied free) p) (sym (Bool·not-not flag)) (ok .0 .joined);
     fits = start-fits flag start whole (jobsOf ps) (length (members p)) n room fit;
   },
-  splits-every n tied free under flag start whole room ps rest (λ v q. small v (and-left (has s v) (not (has p v)) (sym (f v) ∙ q))) few h (omega arith),
+  spread-every n tied free flag start whole room ps (ok .1) (omega arith),
 )
   where
     start-fits : (b : Bool) (start whole later size n : ℕ) → start + whole ≤ n → size + later ≤ whole → startAt b start whole later size + size ≤ n

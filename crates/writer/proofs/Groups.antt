@@ -1,25 +1,25 @@
 -- The parts of a set are the blocks of a group.
-use Prim.Native.Nat.{ℕ, suc, _≤_, _<_}
+use Prim.Native.Nat.{ℕ, _≤_, _<_}
 use mathlib.Core.Path.{_≡_, refl, sym, ap, subst, _∙_}
-use mathlib.Core.List.{List, [], _∷_, map, List·Memᴰ}
+use mathlib.Core.List.{List, [], _∷_, map}
 use mathlib.Core.Bool.{Bool, true, false, _&&_, not}
 use mathlib.Core.Logic.{_⊎_, inl, inr, ⊎-elim}
-use native.Mathlib.Decide.{decLt}
 use native.Mathlib.Omega.{arith}
 use Rattle.poset.specs.Lists.{below}
 use Rattle.poset.specs.Order.{Rel, Strict}
 use Rattle.poset.specs.Tree.{Kind, series, parallel}
+use Rattle.poset.specs.Decompose.{placed, arranged, comesFirst}
 use Rattle.poset.proofs.Laws.{decided, clash, and-left, and-right, and-intro, not-true, not-false, keep-mem, mem-keep, below-mem}
 use Rattle.poset.proofs.Standing.{near, near-sym}
 use Rattle.poset.proofs.Linked.{Shared, Linked}
-use Rattle.poset.proofs.Unique.{Same}
+use Rattle.poset.proofs.Shape.{Same}
 use Rattle.poset.proofs.Components.{Of, OfBlocks, Sorted}
-use Rattle.poset.proofs.Laying.{keep-sorted}
+use Rattle.poset.proofs.Laying.{keep-sorted, placed-yes, placed-not}
 use Rattle.poset.proofs.Decomposition.{below-sorted}
-use Rattle.relation.specs.Table.{has, members, Least}
-use Rattle.writer.specs.Parts.{Walk, start, next, PartOf, First, StartsAt, Splits}
-use Rattle.writer.proofs.Reached.{Reached, reached-linked}
-use Rattle.writer.proofs.Peeling.{Piece, Pieces, piece-fewer, parallel-piece, series-piece, pieces-group}
+use Rattle.relation.specs.Table.{has, members}
+use Rattle.writer.specs.Parts.{Walk, start, next, PartOf, StartsAt, Splits, bigger, laidOut}
+use Rattle.writer.proofs.Reached.{reached-linked}
+use Rattle.writer.proofs.Peeling.{Piece, Pieces, piece-fewer, parallel-piece, series-piece, series-group, parallel-group}
 use Rattle.writer.proofs.Worklist.{GroupOf}
 
 -- the jobs of a set in a list
@@ -115,16 +115,8 @@ piece-of n r close under strict few false same turned s x part rest small at p f
     (part-linked n r close under strict few false same turned s x part small p)
     (members-sorted part)
     (own n r close under strict few false same turned s x part rest small p f)
-    lower
     (far n r close under strict few false same turned s x part rest small p f)
     (differ n r close under strict few false same turned s x part rest small p f)
-  where
-    lower : (v : ℕ) → has rest v ≡ true → x < v
-    lower v q =
-        let inside = rest-in n r close under strict few false same turned s x part rest small p f v q in
-        let new : x ≡ v → ⊥ = differ n r close under strict few false same turned s x part rest small p f x v
-        (own n r close under strict few false same turned s x part rest small p f) q in
-        elim (decLt x v) [ yes l ↦ l | no l ↦ absurd (clash inside (at .least v (omega arith))) ]
 
 module _ (n : ℕ) (r close under : Rel) (strict : Strict n r) (few : n ≤ 128) (flag : Bool) (same : Alike n r close flag)
     (turned : (u v : ℕ) → under u v ≡ r v u) where
@@ -158,11 +150,39 @@ module _ (n : ℕ) (r close under : Rel) (strict : Strict n r) (few : n ≤ 128)
       inside : (u : ℕ) → has rest u ≡ true → u < n
       inside u q = small u (and-left (has s u) (not (has part u)) (sym (f u) ∙ q))
 
-  pub splits-group : (parts : List (List ℕ)) (s : List ℕ) → ((v : ℕ) → has s v ≡ true → v < n) → Splits close under flag s parts
-      → GroupOf (kindOf flag) r (members s) (map members parts)
-  splits-group parts s small h =
-      pieces-group (kindOf flag) r (λ v. ⊥) (members s) (map members parts) (splits-pieces parts s small h)
-      (λ v. (
-        (λ m. let q = splits-same parts s small h v .0 m in members-of s v (omega (arith, small v q)) q),
-        λ m. splits-same parts s small h v .1 (of-members s v m),
-      ))
+  splits-jobs-same : (parts : List (List ℕ)) (s : List ℕ) → ((v : ℕ) → has s v ≡ true → v < n) → Splits close under flag s parts
+      → Same (OfBlocks (map members parts)) (Of (members s))
+  splits-jobs-same parts s small h v = (
+    (λ m. let q = splits-same parts s small h v .0 m in members-of s v (omega (arith, small v q)) q),
+    λ m. splits-same parts s small h v .1 (of-members s v m),
+  )
+
+-- sets arranged are their blocks arranged
+map-placed : (r : Rel) (p : List ℕ) (ps : List (List ℕ)) → map members (placed bigger p ps) ≡ placed (comesFirst parallel r) (members p) (map members ps)
+unfolding placed comesFirst
+map-placed r p [] = refl
+map-placed r p (q ∷ qs) =
+    ⊎-elim
+    (λ e. ap (map members) (placed-yes bigger p q qs e) ∙ sym (placed-yes (comesFirst parallel r) (members p) (members q) (map members qs) e))
+    (λ e.
+    ap (map members) (placed-not bigger p q qs e)
+    ∙ ap (λ l. members q ∷ l) (map-placed r p qs)
+    ∙ sym (placed-not (comesFirst parallel r) (members p) (members q) (map members qs) e))
+    (decided (bigger p q))
+
+map-arranged : (r : Rel) (ps : List (List ℕ)) → map members (arranged bigger ps) ≡ arranged (comesFirst parallel r) (map members ps)
+unfolding arranged
+map-arranged r [] = refl
+map-arranged r (p ∷ ps) = map-placed r p (arranged bigger ps) ∙ ap (placed (comesFirst parallel r) (members p)) (map-arranged r ps)
+
+pub splits-group : (n : ℕ) (r close under : Rel) (strict : Strict n r) (few : n ≤ 128) (flag : Bool) (same : Alike n r close flag)
+    (turned : (u v : ℕ) → under u v ≡ r v u) (parts : List (List ℕ)) (s : List ℕ) → ((v : ℕ) → has s v ≡ true → v < n) → Splits close under flag s parts
+    → GroupOf (kindOf flag) r (members s) (map members (laidOut flag parts))
+splits-group n r close under strict few true same turned parts s small h =
+    series-group r (λ v. ⊥) (members s) (map members parts) (splits-pieces n r close under strict few true same turned parts s small h)
+    (splits-jobs-same n r close under strict few true same turned parts s small h)
+splits-group n r close under strict few false same turned parts s small h =
+    subst (GroupOf parallel r (members s)) (sym (map-arranged r parts))
+    (parallel-group n r strict (λ v. ⊥) (members s) (map members parts) (splits-pieces n r close under strict few false same turned parts s small h)
+    (λ u m. small u (of-members s u m))
+    (splits-jobs-same n r close under strict few false same turned parts s small h))

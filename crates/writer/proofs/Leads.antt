@@ -11,7 +11,7 @@ use Rattle.poset.proofs.Laws.{decided, clash, any-miss}
 use Rattle.poset.proofs.Components.{Of, Sorted}
 use Rattle.relation.specs.Table.{has, members, Least}
 use Rattle.relation.proofs.Lists.{keep-none}
-use Rattle.writer.specs.Stack.{lead}
+use Rattle.writer.specs.Parts.{lead}
 use Rattle.writer.proofs.Groups.{members-sorted, of-members, members-of}
 
 pub some-any : (s : List ℕ) → 0 < length (members s) → exists (has s) (below 128) ≡ true

@@ -11,6 +11,8 @@ pub mod Splitting
 pub mod Numbering
 pub mod Groups
 pub mod Leads
+pub mod Sizes
+pub mod Arranging
 pub mod Stacking
 pub mod Rows
 pub mod Entries

@@ -1,38 +1,30 @@
 -- A set taken apart block by block: each block is joined and stands to what is left as in a group of the kind.
 use Prim.Native.Nat.{ℕ, _<_}
-use mathlib.Core.Path.{_≡_, sym}
-use mathlib.Core.List.{List, [], _∷_, _++_}
+use mathlib.Core.Path.{_≡_}
+use mathlib.Core.List.{List, [], _∷_}
 use mathlib.Core.Bool.{true, false}
-use mathlib.Core.Logic.{_⊎_, inl, inr, ⊎-elim}
+use mathlib.Core.Logic.{_⊎_, inl, inr}
 use Rattle.poset.specs.Order.{Rel, Strict}
 use Rattle.poset.specs.Tree.{Kind, series, parallel}
-use Rattle.poset.specs.Decompose.{Block}
-use Rattle.poset.proofs.Standing.{near, Stands, near-sym, near-either, free, forced}
+use lib.ListN.{getD}
+use Rattle.poset.specs.Decompose.{Block, arranged, comesFirst}
+use Rattle.poset.proofs.Standing.{near, Stands, near-sym, near-either, stands-near, free, forced}
 use Rattle.poset.proofs.Laws.{clash}
 use Rattle.poset.proofs.Linked.{Linked}
-use Rattle.poset.proofs.Unique.{Same}
+use Rattle.poset.proofs.Shape.{Same}
 use Rattle.poset.proofs.Components.{Of, OfBlocks, Sorted}
-use Rattle.poset.proofs.Laying.{Each, Laid, Led, Ordered, asymmetric, all-before}
+use Rattle.poset.proofs.Laying.{Each, Laid, Pairs, Ordered, Joined, Meet, head-in, arranged-each, arranged-same, meet-laid, asymmetric, all-before}
 use Rattle.writer.proofs.Worklist.{GroupOf}
-
--- the first of the blocks by smallest job
-abbrev pub LeadBy : Kind → Block → (ℕ → Type 0) → Type 0
-LeadBy series b left = Unit {0}
-LeadBy parallel b left = (u : ℕ) × Of b u × ((v : ℕ) → left v → u < v)
 
 pub record Piece (k : Kind) (r : Rel) (b : Block) (left : ℕ → Type 0) : Type 1 where
   pub linked : Linked (near k r) (Of b)
   pub stands : (u v : ℕ) → Of b u → left v → Stands k r u v
-  pub leads : LeadBy k b left
+  pub first : Of b (getD b 0 0)
   pub ascending : Sorted b
 
 abbrev pub Pieces : Kind → Rel → List Block → (ℕ → Type 0) → Type 1
 Pieces k r [] left = Unit {1}
 Pieces k r (b ∷ bs) left = Piece k r b (λ v. OfBlocks bs v ⊎ left v) × Pieces k r bs left
-
-lead-fewer : (k : Kind) (b : Block) (L M : ℕ → Type 0) → ((v : ℕ) → M v → L v) → LeadBy k b L → LeadBy k b M
-lead-fewer series b L M within lead = tt
-lead-fewer parallel b L M within lead = (lead .0, lead .1, λ v p. lead .2 v (within v p))
 
 -- of fewer jobs left the same holds
 pub piece-fewer : (k : Kind) (r : Rel) (b : Block) (L M : ℕ → Type 0) → ((v : ℕ) → M v → L v) → Piece k r b L → Piece k r b M
@@ -40,38 +32,9 @@ piece-fewer k r b L M within p =
     record {
       linked = p .linked;
       stands = λ u v m q. p .stands u v m (within v q);
-      leads = lead-fewer k b L M within (p .leads);
+      first = p .first;
       ascending = p .ascending;
     }
-
-of-append : (bs cs : List Block) (u : ℕ) → OfBlocks (bs ++ cs) u → OfBlocks bs u ⊎ OfBlocks cs u
-of-append [] cs u p = inr p
-of-append (b ∷ bs) cs u (inl p) = inl (inl p)
-of-append (b ∷ bs) cs u (inr p) = ⊎-elim (λ q. inl (inr q)) (λ q. inr q) (of-append bs cs u p)
-
-pub append-of : (bs cs : List Block) (u : ℕ) → OfBlocks bs u ⊎ OfBlocks cs u → OfBlocks (bs ++ cs) u
-append-of [] cs u (inl p) = absurd p
-append-of [] cs u (inr p) = p
-append-of (b ∷ bs) cs u (inl (inl p)) = inl p
-append-of (b ∷ bs) cs u (inl (inr p)) = inr (append-of bs cs u (inl p))
-append-of (b ∷ bs) cs u (inr p) = inr (append-of bs cs u (inr p))
-
--- one block more, taken from what was left
-pub pieces-snoc : (k : Kind) (r : Rel) (bs : List Block) (c : Block) (L M : ℕ → Type 0) → ((v : ℕ) → Of c v ⊎ M v → L v)
-    → Pieces k r bs L → Piece k r c M → Pieces k r (bs ++ (c ∷ [])) M
-pieces-snoc k r [] c L M within ps p = (piece-fewer k r c M (λ v. ⊥ ⊎ M v) (λ v. ⊎-elim (λ q. absurd q) (λ q. q)) p, tt)
-pieces-snoc k r (b ∷ bs) c L M within ps p = (
-  piece-fewer k r b (λ v. OfBlocks bs v ⊎ L v) (λ v. OfBlocks (bs ++ (c ∷ [])) v ⊎ M v) later (ps .0),
-  pieces-snoc k r bs c L M within (ps .1) p,
-)
-  where
-    one : (v : ℕ) → OfBlocks (c ∷ []) v → Of c v
-    one v (inl q) = q
-    one v (inr q) = absurd q
-
-    later : (v : ℕ) → OfBlocks (bs ++ (c ∷ [])) v ⊎ M v → OfBlocks bs v ⊎ L v
-    later v (inl q) = ⊎-elim (λ a. inl a) (λ a. inr (within v (inl (one v a)))) (of-append bs (c ∷ []) v q)
-    later v (inr q) = inr (within v (inr q))
 
 -- nothing left: the blocks are those of a group
 module _ (k : Kind) (r : Rel) (L : ℕ → Type 0) where
@@ -87,36 +50,69 @@ module _ (k : Kind) (r : Rel) (L : ℕ → Type 0) where
   pieces-ascending [] ps = tt
   pieces-ascending (b ∷ bs) ps = (ps .0 .ascending, pieces-ascending bs (ps .1))
 
-pieces-led : (r : Rel) (L : ℕ → Type 0) (bs : List Block) → Pieces parallel r bs L → Led bs
-pieces-led r L [] ps = tt
-pieces-led r L (b ∷ bs) ps =
-    let lead = ps .0 .leads in
-    ((lead .0, lead .1, λ v p. lead .2 v (inl p)), pieces-led r L bs (ps .1))
+series-ordered : (r : Rel) (bs : List Block) → Ordered series r bs
+series-ordered r [] = tt
+series-ordered r (b ∷ []) = tt
+series-ordered r (b ∷ c ∷ bs) = (tt, series-ordered r (c ∷ bs))
 
-pieces-ordered : (k : Kind) (r : Rel) (L : ℕ → Type 0) (bs : List Block) → Pieces k r bs L → Ordered k bs
-pieces-ordered series r L bs ps = tt
-pieces-ordered parallel r L bs ps = pieces-led r L bs ps
-
-pub pieces-group : (k : Kind) (r : Rel) (L : ℕ → Type 0) (js : List ℕ) (bs : List Block) → Pieces k r bs L → Same (OfBlocks bs) (Of js)
-    → GroupOf k r js bs
-pieces-group k r L js bs ps same =
+-- a series as it was taken apart
+pub series-group : (r : Rel) (L : ℕ → Type 0) (js : List ℕ) (bs : List Block) → Pieces series r bs L → Same (OfBlocks bs) (Of js)
+    → GroupOf series r js bs
+series-group r L js bs ps same =
     record {
-      laid = pieces-laid k r L bs ps;
-      linked = pieces-linked k r L bs ps;
-      ordered = pieces-ordered k r L bs ps;
-      ascending = pieces-ascending k r L bs ps;
+      laid = pieces-laid series r L bs ps;
+      linked = pieces-linked series r L bs ps;
+      ordered = series-ordered r bs;
+      ascending = pieces-ascending series r L bs ps;
       same = same;
     }
 
--- the block found from the smallest job of what is left
+-- branches side by side, arranged
+module _ (n : ℕ) (r : Rel) (strict : Strict n r) (L : ℕ → Type 0) where
+  joined-of : (b : Block) (left : ℕ → Type 0) → Piece parallel r b left → ((u : ℕ) → Of b u → u < n) → Joined n r strict parallel b
+  joined-of b left p small = record { linked = p .linked; first = p .first; small = small }
+
+  pieces-meet : (bs : List Block) → Pieces parallel r bs L → ((u : ℕ) → OfBlocks bs u → u < n) → Pairs (Meet n r strict parallel) bs
+  pieces-meet [] ps small = tt
+  pieces-meet (b ∷ bs) ps small = (
+    meets bs (λ u v m q. ps .0 .stands u v m (inl q)) (ps .1) (λ u m. small u (inr m)),
+    pieces-meet bs (ps .1) (λ u m. small u (inr m)),
+  )
+    where
+      meets : (cs : List Block) → ((u v : ℕ) → Of b u → OfBlocks cs v → Stands parallel r u v) → Pieces parallel r cs L
+          → ((u : ℕ) → OfBlocks cs u → u < n) → Each (Meet n r strict parallel b) cs
+      meets [] stands qs small′ = tt
+      meets (c ∷ cs) stands qs small′ = (
+        record {
+          one = joined-of b _ (ps .0) (λ u m. small u (inl m));
+          two = joined-of c _ (qs .0) (λ u m. small′ u (inl m));
+          tied = λ u v p q. stands-near parallel r u v (stands u v p (inl q));
+        },
+        meets cs (λ u v p q. stands u v p (inr q)) (qs .1) (λ u m. small′ u (inr m)),
+      )
+
+  pub parallel-group : (js : List ℕ) (bs : List Block) → Pieces parallel r bs L → ((u : ℕ) → Of js u → u < n) → Same (OfBlocks bs) (Of js)
+      → GroupOf parallel r js (arranged (comesFirst parallel r) bs)
+  parallel-group js bs ps small same =
+      let first = comesFirst parallel r in
+      let laid = meet-laid n r strict parallel bs (pieces-meet bs ps (λ u m. small u (same u .0 m))) in
+      let there = arranged-same first bs in
+      record {
+        laid = laid .0;
+        linked = arranged-each first (λ b. Linked (near parallel r) (Of b)) bs (pieces-linked parallel r L bs ps);
+        ordered = laid .1;
+        ascending = arranged-each first Sorted bs (pieces-ascending parallel r L bs ps);
+        same = λ u. (λ p. same u .0 (there u .0 p), λ p. there u .1 (same u .1 p));
+      }
+
+-- the block found from a job of what is left
 pub parallel-piece : (r : Rel) (b : Block) (left : ℕ → Type 0) (x : ℕ) → Linked (near parallel r) (Of b) → Sorted b → Of b x
-    → ((v : ℕ) → left v → x < v) → ((u v : ℕ) → Of b u → left v → near parallel r u v ≡ false)
-    → ((u v : ℕ) → Of b u → left v → u ≡ v → ⊥) → Piece parallel r b left
-parallel-piece r b left x linked sorted has lower far differ =
+    → ((u v : ℕ) → Of b u → left v → near parallel r u v ≡ false) → ((u v : ℕ) → Of b u → left v → u ≡ v → ⊥) → Piece parallel r b left
+parallel-piece r b left x linked sorted has far differ =
     record {
       linked = linked;
       stands = λ u v p q. free r u v (near-either parallel r u v (differ u v p q) (far u v p q));
-      leads = (x, has, lower);
+      first = head-in b x has;
       ascending = sorted;
     }
 
@@ -125,7 +121,7 @@ pub series-piece : (n : ℕ) (r : Rel) → Strict n r → (b : Block) (left : �
     → ((v : ℕ) → left v → r v x ≡ false) → ((u v : ℕ) → Of b u → left v → near series r u v ≡ false)
     → ((u v : ℕ) → Of b u → left v → u ≡ v → ⊥) → ((u : ℕ) → Of b u → u < n) → ((v : ℕ) → left v → v < n) → Piece series r b left
 series-piece n r strict b left x linked sorted has first far differ small small-left =
-    record { linked = linked; stands = stands; leads = tt; ascending = sorted }
+    record { linked = linked; stands = stands; first = head-in b x has; ascending = sorted }
   where
     tied : (u v : ℕ) → Of b u → left v → near parallel r u v ≡ true
     tied u v p q = near-either series r u v (differ u v p q) (far u v p q)

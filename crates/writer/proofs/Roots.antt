@@ -4,10 +4,11 @@ use mathlib.Core.Path.{_≡_, refl, sym, ap, ap₂, subst, fun-ext, _∙_}
 use mathlib.Core.List.{List, [], _∷_, _++_, append-nil, List·Memᴰ, List·Memᴰ·head, List·Memᴰ·tail}
 use mathlib.Core.Bool.{Bool, true, false, _&&_, _||_, not}
 use mathlib.Core.Logic.{_⊎_, ⊎-elim}
+use native.Mathlib.Decide.{decLt}
 use native.Mathlib.Omega.{arith}
 use lib.Dec.{eqb, ltb}
 use lib.ListN.{length, take}
-use lib.Seq.{length-take-le}
+use lib.Seq.{length-take-le, getD-take}
 use Rattle.poset.specs.Lists.{below, keep, upFrom}
 use Rattle.poset.specs.Order.{Rel, Strict, HasN, comparable, incomparable}
 use Rattle.poset.specs.Tree.{Kind, series, parallel}
@@ -16,15 +17,19 @@ use Rattle.poset.proofs.Laws.{ltb-true, lt-true, keep-yes, mem-below, mem-upFro
 use Rattle.poset.proofs.Sums.{length-below}
 use Rattle.relation.proofs.Lists.{keep-append, keep-none}
 use Rattle.poset.proofs.Standing.{near, near-sym, near-either}
+use Rattle.poset.specs.Decompose.{arranged}
+use Rattle.poset.proofs.Laying.{Each}
 use Rattle.poset.proofs.Linked.{Linked}
 use Rattle.poset.proofs.Components.{Of, Sorted}
 use Rattle.poset.proofs.Connected.{connected-n}
-use Rattle.relation.specs.Table.{has, members}
-use Rattle.writer.specs.Parts.{Walk, start, next, Partial, PartOf, Splits, Cut, closeOf}
+use Rattle.relation.specs.Table.{has, members, Least}
+use Rattle.writer.specs.Parts.{sizeOf, lead, Walk, start, next, Partial, PartOf, Splits, Cut, Sized, Leading, Numbered, Taken, bigger, closeOf}
 use Rattle.writer.specs.Stack.{Entry, jobsOf}
 use Rattle.writer.proofs.Searching.{path-within}
 use Rattle.writer.proofs.Groups.{kindOf, Alike, joined-linked, members-sorted, of-members}
-use Rattle.writer.proofs.Entries.{JoinedBy, EntryOk, none-jobs, splits-jobs}
+use Rattle.writer.proofs.Leads.{lead-least}
+use Rattle.writer.proofs.Entries.{JoinedBy, EntryOk, splits-jobs, laid-sum, laid-count}
+use Rattle.writer.proofs.Counting.{few-members, none-jobs}
 
 -- one part only: the set is joined
 pub one-part : (close under : Rel) (flag : Bool) (s part : List ℕ) → Splits close under flag s (part ∷ []) → JoinedBy close s
@@ -91,16 +96,90 @@ members-all all n few h =
     (keep-none (has all) (upFrom n d) (λ v m. h v ∙ false-unless (ltb v n) (λ q. omega (arith, ltb-true v n q, mem-upFrom n d m .0))))
     ∙ append-nil (below n)
 
+-- the numbers are those of the parts that were found
+as-found : {s : List ℕ} (count : ℕ) (parts : List (List ℕ)) {numbers numbers′ : List ℕ} → Numbered s parts count numbers numbers′
+    → Numbered s (take count parts) count numbers numbers′
+as-found count parts n = record {
+  size = n .size;
+  here = λ i v l h. n .here i v l (ap (λ (p : List ℕ). has p v) (sym (getD-take count parts i [] l)) ∙ h);
+  others = n .others;
+}
+
+-- a series is laid out as it is taken apart
+pub cut-taken : {close under : Rel} {s : List ℕ} {parts : List (List ℕ)} {jobs : List ℕ} {count : ℕ} {numbers numbers′ : List ℕ}
+    → Cut close under true s parts count → Sized count parts jobs → Numbered s parts count numbers numbers′
+    → Taken close under true s parts jobs count numbers numbers′
+cut-taken {parts = parts} {count = count} cut sized numbered =
+    record { sized = sized; few = cut .few; found = take count parts; splits = cut .these; numbered = as-found count parts numbered; these = refl }
+
+-- side by side the parts are found by their smallest jobs
+
+part-lead : (close : Rel) (s : List ℕ) (x : ℕ) (part : List ℕ) → Least s x → PartOf close s x part → lead part ≡ x
+part-lead close s x part at p =
+    lead-least part x record {
+      small = at .small;
+      member = p .own;
+      least = λ v l. false-unless (has part v) (λ h. clash (p .within v h) (at .least v l));
+    }
+
+splits-above : (close under : Rel) (ps : List (List ℕ)) (s : List ℕ) (x : ℕ) → ((v : ℕ) → has s v ≡ true → x < v) → Splits close under false s ps
+    → Each (λ q. x < lead q) ps
+splits-above close under [] s x above h = tt
+splits-above close under (p ∷ ps) s x above (y, rest, at, part, f, h) = (
+  subst (λ (z : ℕ). x < z) (sym (part-lead close s y p at part)) (above y (at .member)),
+  splits-above close under ps rest x (λ v q. above v (and-left (has s v) (not (has p v)) (sym (f v) ∙ q))) h,
+)
+
+splits-leading : (close under : Rel) (ps : List (List ℕ)) (s : List ℕ) → Splits close under false s ps → Leading ps
+splits-leading close under [] s h = tt
+splits-leading close under (p ∷ ps) s (x, rest, at, part, f, h) = (
+  subst (λ (z : ℕ). Each (λ q. z < lead q) ps) (sym (part-lead close s x p at part)) (splits-above close under ps rest x later h),
+  splits-leading close under ps rest h,
+)
+  where
+    later : (v : ℕ) → has rest v ≡ true → x < v
+    later v q =
+        let inside = and-left (has s v) (not (has p v)) (sym (f v) ∙ q) in
+        let outside = not-true (has p v) (and-right (has s v) (not (has p v)) (sym (f v) ∙ q)) in
+        elim (decLt x v) [
+          | yes l ↦ l
+          | no l ↦ elim (decLt v x) [
+            | yes k ↦ absurd (clash inside (at .least v k))
+            | no k ↦ let e : x ≡ v = omega arith in absurd (clash (ap (has p) (sym e) ∙ part .own) outside)
+          ]
+        ]
+
+-- and then arranged
+module _ {close under : Rel} {s : List ℕ} {parts : List (List ℕ)} {count : ℕ} (cut : Cut close under false s parts count) where
+  pub cut-few : count ≤ 128
+  cut-few = omega (arith, cut .few, few-members s)
+
+  pub cut-leading : Leading (take count parts)
+  cut-leading = splits-leading close under (take count parts) s (cut .these)
+
+  pub cut-arranged : {numbers numbers′ : List ℕ} → Numbered s parts count numbers numbers′ → (parts′ : List (List ℕ)) (jobs′ : List ℕ)
+      → Sized count parts′ jobs′ → take count parts′ ≡ arranged bigger (take count parts) → Taken close under false s parts′ jobs′ count numbers numbers′
+  cut-arranged numbered parts′ jobs′ sized e = record {
+    sized = sized;
+    few = cut .few;
+    found = take count parts;
+    splits = cut .these;
+    numbered = as-found count parts numbered;
+    these = e;
+  }
+
 -- a set taken apart
-module _ {close under : Rel} {flag : Bool} {s : List ℕ} {parts : List (List ℕ)} {count : ℕ} (cut : Cut close under flag s parts count) where
+module _ {close under : Rel} {flag : Bool} {s : List ℕ} {parts : List (List ℕ)} {jobs : List ℕ} {count : ℕ} {numbers numbers′ : List ℕ}
+    (cut : Taken close under flag s parts jobs count numbers numbers′) where
   pub cut-count : length (members s) ≤ 128 → length (take count parts) ≡ count
-  cut-count few = length-take-le count parts (omega (arith, cut .few, cut .size))
+  cut-count few = length-take-le count parts (omega (arith, cut .few, cut .sized .parts-length))
 
   pub cut-jobs : jobsOf (take count parts) ≡ length (members s)
-  cut-jobs = splits-jobs close under flag (take count parts) s (cut .these)
+  cut-jobs = ap jobsOf (cut .these) ∙ laid-sum flag sizeOf (cut .found) ∙ splits-jobs close under flag (cut .found) s (cut .splits)
 
   pub cut-joined : length (members s) ≤ 128 → count < 2 → 0 < length (members s) → JoinedBy close s
-  cut-joined few l some = few-parts close under flag s (take count parts) (omega (arith, cut-count few)) some (cut .these)
+  cut-joined few l some =
+      few-parts close under flag s (cut .found) (omega (arith, cut-count few, ap length (cut .these), laid-count flag (cut .found))) some (cut .splits)
 
 -- the first entry: all jobs, a series if they split so, else what a series keeps together
 module _ (n : ℕ) (pos : 0 < n) (few : n ≤ 128) (r tied free under : Rel) (strict : Strict n r) (turned : (u v : ℕ) → under u v ≡ r v u)
@@ -165,7 +244,7 @@ module _ (n : ℕ) (pos : 0 < n) (few : n ≤ 128) (r tied free under : Rel) (st
   pub root-cut : {parts : List (List ℕ)} {count : ℕ} → Cut free under true all parts count
       → EntryOk n tied free (record { set = all; start = 0; series = ltb 1 count })
   root-cut {parts = parts} {count = count} cut =
-      root-ok (take count parts) (ltb 1 count) (ap (ltb 1) (sym (cut-count cut (omega (arith, all-size))))) (cut .these)
+      root-ok (take count parts) (ltb 1 count) (ap (ltb 1) (sym (length-take-le count parts (omega (arith, cut .few, cut .size, all-size))))) (cut .these)
 
 -- the tables that the loop reads
 

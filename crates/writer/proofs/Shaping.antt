@@ -20,7 +20,7 @@ use Rattle.poset.proofs.Theorems.{tree-of-means, tree-of-sound, tree-has-no-n}
 use Rattle.relation.specs.Table.{members}
 use Rattle.record.specs.Tokens.{groupToken, tokens}
 use Rattle.writer.specs.declared.tree.Progress.{Progress}
-use Rattle.writer.specs.Parts.{Splits, Cut, closeOf}
+use Rattle.writer.specs.Parts.{sizeOf, Splits, Taken, laidOut, closeOf}
 use Rattle.writer.specs.Shapes.{shape, shaped}
 use Rattle.writer.specs.Stack.{Entry, Stacks, entries, entryAt, jobsOf, spreadOut, opened, Opens, groupField}
 use Rattle.writer.proofs.Stores.{stored, blank-stored, whole-list}
@@ -29,7 +29,8 @@ use Rattle.writer.proofs.Groups.{kindOf, Alike, splits-group}
 use Rattle.writer.proofs.Stacking.{entry-same, stacks-lower}
 use Rattle.writer.proofs.Roots.{cut-count, cut-jobs}
 use Rattle.writer.proofs.Entries.{EntryOk, Every, every-append, jobs-append, jobs-spread, entries-few, toPending, pend}
-use Rattle.writer.proofs.Entries.{pend-append, pend-spread, field-token, splits-jobs, splits-every, setsOf}
+use Rattle.writer.proofs.Entries.{pend-append, pend-spread, field-token, splits-jobs, splits-each, spread-every, PartOk, laid-sum, laid-each, setsOf}
+use Rattle.poset.proofs.Laying.{Each}
 
 -- the arrays that are written
 pub record Arrays : Type 0 where
@@ -179,17 +180,28 @@ module _ (n : ℕ) (few : n ≤ 128) (r tied free : Rel) (a : Arrays) (p : Progr
 
   -- a group of two parts or more
   module _ (under : Rel) (strict : Strict n r) (turned : (u v : ℕ) → under u v ≡ r v u)
-      (alike : Alike n r (closeOf (top-of .series) tied free) (top-of .series)) (parts : List (List ℕ))
-      (split : Splits (closeOf (top-of .series) tied free) under (top-of .series) (top-of .set) parts) (two : 2 ≤ length parts) where
+      (alike : Alike n r (closeOf (top-of .series) tied free) (top-of .series)) (found : List (List ℕ))
+      (split : Splits (closeOf (top-of .series) tied free) under (top-of .series) (top-of .set) found) (parts : List (List ℕ))
+      (these : parts ≡ laidOut (top-of .series) found) (two : 2 ≤ length parts) where
     jobs-same : jobsOf parts ≡ length (members (top-of .set))
-    jobs-same = splits-jobs (closeOf (top-of .series) tied free) under (top-of .series) parts (top-of .set) split
+    jobs-same =
+        ap jobsOf these
+        ∙ laid-sum (top-of .series) sizeOf found
+        ∙ splits-jobs (closeOf (top-of .series) tied free) under (top-of .series) found (top-of .set) split
+
+    parts-ok : Each (PartOk n (closeOf (top-of .series) tied free)) parts
+    parts-ok =
+        subst (Each (PartOk n (closeOf (top-of .series) tied free))) (sym these)
+        (laid-each (top-of .series) (PartOk n (closeOf (top-of .series) tied free)) found
+        (splits-each n (closeOf (top-of .series) tied free) under (top-of .series) found (top-of .set) (top-ok .0 .small) few split))
 
     abbrev size : ℕ
     size = length (members (top-of .set))
 
     group-here : GroupOf (kindOf (top-of .series)) r (members (top-of .set)) (map members parts)
     group-here =
-        splits-group n r (closeOf (top-of .series) tied free) under strict few (top-of .series) alike turned parts (top-of .set) (top-ok .0 .small) split
+        subst (λ ps. GroupOf (kindOf (top-of .series)) r (members (top-of .set)) (map members ps)) (sym these)
+        (splits-group n r (closeOf (top-of .series) tied free) under strict few (top-of .series) alike turned found (top-of .set) (top-ok .0 .small) split)
 
     -- the field of the group, and its parts pending
     todo-parts : (ps : List (List ℕ)) → 2 ≤ length ps → GroupOf (kindOf (top-of .series)) r (members (top-of .set)) (map members ps)
@@ -232,8 +244,7 @@ module _ (n : ℕ) (few : n ≤ 128) (r tied free : Rel) (a : Arrays) (p : Progr
           every =
               subst (Every n tied free) (sym es)
               (every-append n tied free (spreadOut (top-of .series) (top-of .start) size parts) others
-              (splits-every n tied free under (top-of .series) (top-of .start) size (top-ok .0 .fits) parts (top-of .set) (top-ok .0 .small) few split
-              (omega (arith, jobs-same)))
+              (spread-every n tied free (top-of .series) (top-of .start) size (top-ok .0 .fits) parts parts-ok (omega (arith, jobs-same)))
               (top-ok .1));
           whole =
               omega (
@@ -289,12 +300,14 @@ module _ (n : ℕ) (few : n ≤ 128) (r tied free : Rel) (a : Arrays) (p : Progr
         (group-next stack starts kinds sizes q z es qh qc qg qp)
 
   -- the parts may take the place of the top entry
-  pub opens : (under : Rel) {parts : List (List ℕ)} {count : ℕ} → Cut (closeOf (top-of .series) tied free) under (top-of .series) (top-of .set) parts count
+  pub opens : (under : Rel) {parts : List (List ℕ)} {jobs : List ℕ} {count : ℕ} {numbers numbers′ : List ℕ}
+      → Taken (closeOf (top-of .series) tied free) under (top-of .series) (top-of .set) parts jobs count numbers numbers′
       → Opens top-of (take count parts)
   opens under cut = record { fits = omega (arith, top-ok .0 .fits); jobs = cut-jobs cut }
 
   pub group-cut : (under : Rel) → Strict n r → ((u v : ℕ) → under u v ≡ r v u) → Alike n r (closeOf (top-of .series) tied free) (top-of .series)
-      → {parts : List (List ℕ)} {count : ℕ} → Cut (closeOf (top-of .series) tied free) under (top-of .series) (top-of .set) parts count → 2 ≤ count
+      → {parts : List (List ℕ)} {jobs : List ℕ} {count : ℕ} {numbers numbers′ : List ℕ}
+      → Taken (closeOf (top-of .series) tied free) under (top-of .series) (top-of .set) parts jobs count numbers numbers′ → 2 ≤ count
       → (stack : List (List ℕ)) (starts : List ℕ) (kinds : List Bool) (sizes : List ℕ) (q : Progress)
       → Stacks stack starts kinds sizes (top + count)
       → entries stack starts kinds (top + count) ≡ opened top-of (take count parts) ++ others → q .height ≡ top + count
@@ -305,7 +318,7 @@ module _ (n : ℕ) (few : n ≤ 128) (r tied free : Rel) (a : Arrays) (p : Progr
       q
   group-cut under strict turned alike {parts = parts} {count = count} cut two stack starts kinds sizes q z es qh qc qg qp fields ef =
       let long : length (take count parts) ≡ count = cut-count cut (omega (arith, top-ok .0 .fits)) in
-      group-turn under strict turned alike (take count parts) (cut .these) (omega (arith, long)) stack starts kinds sizes q
+      group-turn under strict turned alike (cut .found) (cut .splits) (take count parts) (cut .these) (omega (arith, long)) stack starts kinds sizes q
       (subst (Stacks stack starts kinds sizes) (sym qh) z) (ap (entries stack starts kinds) qh ∙ es)
       (omega (arith, long)) qc qg qp fields
       (ef ∙ ap (λ k. set (a .fields) (p .count) (groupField (top-of .series) (k - 1))) (sym long))

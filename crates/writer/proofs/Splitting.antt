@@ -1,9 +1,8 @@
 -- A set taken apart, one part after another.
-use Prim.Native.Nat.{ℕ, zero, suc, _+_, _≤_, _<_}
-use mathlib.Core.Path.{_≡_, refl, sym, ap, subst, _∙_}
+use Prim.Native.Nat.{ℕ, _+_, _≤_, _<_}
+use mathlib.Core.Path.{_≡_, sym, ap, subst, _∙_}
 use mathlib.Core.List.{List, [], _∷_, _++_, append-assoc, append-nil, List·Memᴰ, List·Memᴰ·head, List·Memᴰ·tail}
 use mathlib.Core.Bool.{Bool, true, false, _&&_, not}
-use mathlib.Core.Logic.{⊎-elim}
 use native.Mathlib.Numerals.{add-one}
 use native.Mathlib.Omega.{arith}
 use lib.ListN.{length, take, set, length-set}
@@ -11,15 +10,10 @@ use lib.Seq.{take-suc-set}
 use Rattle.poset.specs.Lists.{exists, below}
 use Rattle.poset.specs.Order.{Rel}
 use Rattle.poset.proofs.Laws.{clash, false-unless, and-left, and-right, not-true, any-found, keep-mem}
-use Rattle.poset.proofs.Sums.{length-keep-le, length-below}
 use Rattle.relation.specs.Table.{has, members}
 use Rattle.writer.specs.Parts.{Jobs, PartOf, StartsAt, Splits}
-use Rattle.writer.proofs.Counting.{set-falls}
+use Rattle.writer.proofs.Counting.{few-members, set-falls}
 use Rattle.writer.proofs.Searching.{empty}
-
-pub few-members : (s : List ℕ) → length (members s) ≤ 128
-unfolding members
-few-members s = omega (arith, length-keep-le (has s) (below 128), length-below 128)
 
 -- the parts so far, with the parts of what is left, are the parts of s
 pub record Splitting (near under : Rel) (series : Bool) (s left : List ℕ) (parts : List (List ℕ)) (count : ℕ) : Type 0 where

@@ -1,16 +1,12 @@
--- Runs of stores, one after another, and lists with the same counts.
+-- Runs of stores, one after another.
 use Prim.Native.Nat.{ℕ, suc, _+_, _-_, _≤_, _<_}
 use mathlib.Core.Path.{_≡_, refl, sym, ap, ap₂, _∙_}
-use mathlib.Core.List.{List, [], _∷_, _++_, List·Memᴰ, List·Memᴰ·head, List·Memᴰ·tail}
-use mathlib.Core.Logic.{⊎-elim}
+use mathlib.Core.List.{List, [], _∷_, _++_}
 use native.Mathlib.Nat.{add-zero}
 use native.Mathlib.Omega.{arith}
-use lib.Dec.{eqb}
 use native.Mathlib.Numerals.{add-one}
-use lib.ListN.{length, take, drop, replicate, set, length-append, take-append-drop}
+use lib.ListN.{length, take, drop, replicate, set, take-append-drop}
 use lib.Seq.{sets, set-comm, take-suc-set, drop-set-lt, drop-drop, length-take-le}
-use Rattle.poset.specs.Lists.{occurrences}
-use Rattle.poset.proofs.Laws.{decided, clash, eqb-true, eqb-same, count-same, count-other, count-mem, count-append}
 
 -- a list filled from the left, zeros after it
 
@@ -51,28 +47,3 @@ module _ {ℓ} {A : Type ℓ} where
   sets-comm l i j [] ys h = refl
   sets-comm l i j (x ∷ xs) ys h =
       ap (λ k. sets k (suc i) xs) (sym (set-sets l i j x ys (omega arith))) ∙ sets-comm (set l i x) (suc i) j xs ys (omega arith)
-
-  -- what stands before an element and after it
-  pub split-mem : {x : A} {xs : List A} → List·Memᴰ x xs → (ls : List A) × (bs : List A) × (xs ≡ ls ++ x ∷ bs)
-  split-mem {x} (List·Memᴰ·head {x = y} {xs = ys} e) = ([], ys, ap (λ z. z ∷ ys) (sym e))
-  split-mem {x} (List·Memᴰ·tail {x = y} {xs = ys} m) = let s = split-mem m in (y ∷ s .0, s .1, ap (λ k. y ∷ k) (s .2))
-
-pub same-counts-length : (xs ys : List ℕ) → ((u : ℕ) → occurrences u xs ≡ occurrences u ys) → length xs ≡ length ys
-unfolding occurrences
-same-counts-length [] [] e = refl
-same-counts-length [] (y ∷ ys) e = absurd (omega (arith, e y, count-same y y ys refl))
-same-counts-length (x ∷ xs) ys e =
-    let s = split-mem (count-mem x ys (omega (arith, e x, count-same x x xs refl))) in
-    let rest = same-counts-length xs (s .0 ++ s .1) (λ u. less u (s .0) (s .1) (s .2)) in
-    omega (arith, rest, ap length (s .2), length-append (s .0) (x ∷ s .1), length-append (s .0) (s .1))
-  where
-    less : (u : ℕ) (ls bs : List ℕ) → ys ≡ ls ++ x ∷ bs → occurrences u xs ≡ occurrences u (ls ++ bs)
-    less u ls bs q =
-        let whole = e u ∙ ap (occurrences u) q ∙ count-append u ls (x ∷ bs) in
-        let part = count-append u ls bs in
-        ⊎-elim
-        (λ h. omega (arith, whole, part, count-same u x xs (eqb-true u x h), count-same u x bs (eqb-true u x h)))
-        (λ h.
-        let d : u ≡ x → ⊥ = λ z. clash (ap (eqb u) (sym z) ∙ eqb-same u) h in
-        omega (arith, whole, part, count-other u x xs d, count-other u x bs d))
-        (decided (eqb u x))

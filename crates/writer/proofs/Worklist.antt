@@ -1,12 +1,10 @@
 -- Making a tree from a list of blocks still to be made: whatever trees tell these blocks, they complete what is written to the whole tree.
-use Prim.Native.Nat.{ℕ, zero, suc, _+_, _-_, _≤_, _<_}
+use Prim.Native.Nat.{ℕ, suc, _+_, _-_, _≤_}
 use mathlib.Core.Path.{_≡_, refl, sym, ap, subst, _∙_}
-use mathlib.Core.List.{List, [], _∷_, _++_, flatMap, append-assoc, append-nil, List·Memᴰ}
-use mathlib.Core.Bool.{true, false}
-use mathlib.Core.Logic.{_⊎_, inl, inr, ⊎-elim}
+use mathlib.Core.List.{List, [], _∷_, _++_, append-assoc, append-nil}
+use mathlib.Core.Bool.{false}
 use native.Mathlib.Omega.{arith}
-use native.Mathlib.Nat.{add-zero, eq-zero-or-pos}
-use lib.Dec.{eqb}
+use native.Mathlib.Nat.{add-zero}
 use lib.ListN.{length, take, drop, set, length-append}
 use lib.Seq.{sets, sets-eq, take-at}
 use Rattle.poset.specs.Lists.{below}
@@ -14,19 +12,16 @@ use Rattle.poset.specs.Order.{Rel}
 use Rattle.poset.specs.Decompose.{Block}
 use Rattle.poset.specs.Tree.{Kind, series, parallel, Tree, leaf, node, Forest, last, more}
 use Rattle.poset.specs.Tree.{leaves, forestLeaves, reversed, forestReversed, joined, groups, forestGroups}
-use Rattle.poset.specs.Lists.{occurrences}
-use Rattle.poset.proofs.Laws.{decided, clash, eqb-true, eqb-same, count-same, count-other, count-zero, count-mem, mem-count}
-use Rattle.poset.proofs.Shape.{in-leaves, leaves-in, good-once}
-use Rattle.poset.proofs.Meaning.{once-count}
+use Rattle.poset.proofs.Shape.{Same, good-once}
+use Rattle.poset.proofs.Ranks.{block-size}
 use Rattle.poset.proofs.Standing.{near}
 use Rattle.poset.proofs.Linked.{Linked}
-use Rattle.poset.proofs.Unique.{Same}
 use Rattle.poset.proofs.Components.{Of, OfBlocks, Sorted}
 use Rattle.poset.proofs.Laying.{Each, Laid, Ordered}
 use Rattle.poset.proofs.Sums.{length-below}
 use Rattle.poset.proofs.Decomposition.{below-sorted}
-use Rattle.poset.proofs.Telling.{Tells, TellsForest, later-ordered, tells-leaf, tells-last, tells-more, tells-node}
-use Rattle.writer.proofs.Stores.{sets-append, sets-comm, same-counts-length}
+use Rattle.poset.proofs.Telling.{Tells, TellsForest, tells-leaf, tells-last, tells-more, tells-node}
+use Rattle.writer.proofs.Stores.{sets-append, sets-comm}
 use Rattle.record.specs.Layout.{moreChildren}
 use Rattle.record.specs.Tokens.{groupToken, tokens, forestTokens}
 
@@ -110,34 +105,8 @@ mutual
   forestReversed-length k (more t f) =
       group-length k (reversed t) (forestReversed k f) (leaves t) (forestLeaves f) (reversed-length t) (forestReversed-length k f)
 
--- a list that ascends has each of its elements once
-sorted-count : (xs : List ℕ) → Sorted xs → (u : ℕ) → occurrences u xs ≤ 1
-unfolding occurrences
-sorted-count [] s u = omega arith
-sorted-count (x ∷ xs) s u =
-    ⊎-elim
-    (λ h.
-    let e = eqb-true u x h in
-    omega (arith, count-same u x xs e, count-zero u xs (λ m. let l = s .0 u m in omega arith)))
-    (λ h. omega (arith, count-other u x xs (λ z. clash (ap (eqb u) (sym z) ∙ eqb-same u) h), sorted-count xs (s .1) u))
-    (decided (eqb u x))
-
--- two lists that have each element at most once, and the same elements
-same-count : (u : ℕ) (xs ys : List ℕ) → occurrences u xs ≤ 1 → occurrences u ys ≤ 1 → (List·Memᴰ u xs → List·Memᴰ u ys) → (List·Memᴰ u ys → List·Memᴰ u xs)
-    → occurrences u xs ≡ occurrences u ys
-same-count u xs ys p q to from =
-    ⊎-elim
-    (λ z. omega (arith, z, count-zero u ys (λ m. omega (arith, mem-count (from m)))))
-    (λ h. omega (arith, mem-count (to (count-mem u xs h))))
-    (eq-zero-or-pos (occurrences u xs))
-
 pub tells-length : (r : Rel) (b : Block) (t : Tree) → Sorted b → Tells r b t → length (reversed t) ≡ length b
-tells-length r b t s x =
-    reversed-length t
-    ∙ same-counts-length (leaves t) b
-    (λ u.
-    same-count u (leaves t) b (once-count t (good-once r t (x .good)) u) (sorted-count b s u)
-    (λ m. x .same u .0 (leaves-in t m)) (λ m. in-leaves t (x .same u .1 m)))
+tells-length r b t s x = reversed-length t ∙ block-size b t s (good-once r t (x .good)) (x .same)
 
 -- the blocks of a group, each with its start: in a series one after the other, in a parallel group from the last to the first
 
@@ -243,20 +212,21 @@ module _ (r : Rel) (k : Kind) where
   abbrev Joined : Block → Type 1
   Joined b = Linked (near k r) (Of b)
 
-  forest-from : (b : Block) (bs : List Block) (t : Tree) (ts : List Tree) → Laid k r (b ∷ bs) → Each Joined (b ∷ bs) → Ordered k (b ∷ bs)
+  forest-from : (b : Block) (bs : List Block) (t : Tree) (ts : List Tree) → Laid k r (b ∷ bs) → Each Joined (b ∷ bs)
+      → Each Sorted (b ∷ bs) → Ordered k r (b ∷ bs)
       → TreesOf r (b ∷ bs) (t ∷ ts) → TellsForest r k (b ∷ bs) (forestFrom t ts)
-  forest-from b [] t [] laid linked ordered x = tells-last r k b t (linked .0) (x .0)
-  forest-from b [] t (u ∷ ts) laid linked ordered x = absurd (x .1)
-  forest-from b (c ∷ bs) t [] laid linked ordered x = absurd (x .1)
-  forest-from b (c ∷ bs) t (u ∷ ts) laid linked ordered x =
-      tells-more r k b t (linked .0) (x .0) (c ∷ bs) (forestFrom u ts) laid ordered
-      (forest-from c bs u ts (laid .1) (linked .1) (later-ordered k b (c ∷ bs) ordered) (x .1))
+  forest-from b [] t [] laid linked sorted ordered x = tells-last r k b t (linked .0) (sorted .0) (x .0)
+  forest-from b [] t (u ∷ ts) laid linked sorted ordered x = absurd (x .1)
+  forest-from b (c ∷ bs) t [] laid linked sorted ordered x = absurd (x .1)
+  forest-from b (c ∷ bs) t (u ∷ ts) laid linked sorted ordered x =
+      tells-more r k b t (linked .0) (sorted .0) (x .0) (c ∷ bs) (forestFrom u ts) laid ordered
+      (forest-from c bs u ts (laid .1) (linked .1) (sorted .1) (ordered .1) (x .1))
 
 -- a group of two blocks or more
 pub record GroupOf (k : Kind) (r : Rel) (js : List ℕ) (bs : List Block) : Type 1 where
   pub laid : Laid k r bs
   pub linked : Each (λ b. Linked (near k r) (Of b)) bs
-  pub ordered : Ordered k bs
+  pub ordered : Ordered k r bs
   pub ascending : Each Sorted bs
   pub same : Same (OfBlocks bs) (Of js)
 
@@ -291,7 +261,7 @@ module _ (n : ℕ) (r : Rel) (k : Kind) (out fwd rev : List ℕ) (g start : ℕ)
   grouped (t ∷ []) vs y z = absurd (y .1)
   grouped (t ∷ s ∷ us) vs y z =
       let f = forestFrom s us in
-      let whole = forest-from r k b (c ∷ bs) t (s ∷ us) (x .laid) (x .linked) (x .ordered) y in
+      let whole = forest-from r k b (c ∷ bs) t (s ∷ us) (x .laid) (x .linked) (x .ascending) (x .ordered) y in
       let d = todo (node k t f ∷ vs) (tells-node r k js (b ∷ c ∷ bs) t f (x .same) whole, z) in
       let field : groupToken k (moreChildren f) ≡ groupToken k (suc (length bs)) =
       ap (groupToken k) (from-children s us ∙ ap suc (trees-count r bs us (y .1 .1))) in

@@ -6,13 +6,10 @@ use mathlib.Core.List.{List, [], _∷_}
 use mathlib.Core.Bool.{Bool, true, false, not}
 use lib.Dec.{ltb}
 use lib.ListN.{length, getD, set}
+use Rattle.poset.specs.Lists.{sum}
 use Rattle.poset.specs.Order.{Rel}
 use Rattle.relation.specs.Table.{has, members}
-use Rattle.writer.specs.Parts.{Cut, Numbered}
-
--- the smallest job of a set
-abbrev pub lead : List ℕ → ℕ
-lead s = getD (members s) 0 0
+use Rattle.writer.specs.Parts.{sizeOf, Cut, Sized, Numbered}
 
 -- a set, where its jobs begin in the reverse sequence, and whether it is to become a series group
 pub record Entry : Type 0 where
@@ -38,8 +35,7 @@ entries sets starts kinds (suc h) = entryAt sets starts kinds h ∷ entries sets
 
 -- how many jobs some sets have together
 abbrev pub jobsOf : List (List ℕ) → ℕ
-jobsOf [] = 0
-jobsOf (p ∷ ps) = length (members p) + jobsOf ps
+jobsOf ps = sum sizeOf ps
 
 -- where a part begins in the reverse sequence of its group, by the jobs of the parts after it
 abbrev pub startAt : Bool → ℕ → ℕ → ℕ → ℕ → ℕ
@@ -63,13 +59,14 @@ pub record Opens (e : Entry) (parts : List (List ℕ)) : Type 0 where
 
 -- all jobs below n are on the stack, and taken apart as a series: if they come apart, they are to become one
 pub record FirstEntry (n : ℕ) (free under : Rel) (numbers₀ numbers : List ℕ) (sets₀ sets : List (List ℕ)) (kinds₀ kinds : List Bool)
-    (sizes₀ sizes : List ℕ) (parts : List (List ℕ)) (count : ℕ) : Type 0 where
+    (sizes₀ sizes : List ℕ) (parts : List (List ℕ)) (jobs : List ℕ) (count : ℕ) : Type 0 where
   pub all : List ℕ
   pub is-all : (v : ℕ) → has all v ≡ ltb v n
   pub on-stack : sets ≡ set sets₀ 0 all
   pub kind : kinds ≡ set kinds₀ 0 (ltb 1 count)
   pub size : sizes ≡ set sizes₀ 0 n
   pub cut : Cut free under true all parts count
+  pub sized : Sized count parts jobs
   pub numbered : Numbered all parts count numbers₀ numbers
 
 -- the field of a group: a series or a parallel one, by its children minus 1

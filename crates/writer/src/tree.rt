@@ -1,4 +1,5 @@
 //! The canonical tree of an order, written as its fields, node before children, from a stack of sets still to be taken apart.
+use crate::arrange;
 use crate::parts;
 use record::NODE_ROOM;
 use relation::set;
@@ -12,8 +13,8 @@ ghost use Rattle.relation.specs.Table.{members, holds, Inside};
 ghost use Rattle.poset.specs.Order.{Strict};
 ghost use Rattle.poset.specs.Decompose.{treeOf};
 ghost use Rattle.writer.specs.Shapes.{noShape, shape, shaped};
-ghost use Rattle.writer.specs.Parts.{Jobs, Partial, Cut, Numbered, closeOf};
-ghost use Rattle.writer.specs.Stack.{entries, jobsOf, spreadOut, startAt, Stacks, groupField, lead, entryAt, Opens, opened, FirstEntry};
+ghost use Rattle.writer.specs.Parts.{sizeOf, lead, Jobs, Partial, Sized, Taken, closeOf};
+ghost use Rattle.writer.specs.Stack.{entries, jobsOf, spreadOut, startAt, Stacks, groupField, entryAt, Opens, opened, FirstEntry};
 
 // A group: whether it is a series, where it begins in the reverse sequence, and how many jobs it has.
 pub struct Group {
@@ -26,6 +27,7 @@ pub struct Group {
 // it is to become, and its size. A series goes from left to right in the reverse sequence, a parallel group from right to left.
 fn push(
     parts: &[[u64; 2]; 128],
+    jobs: &[u8; 128],
     count: usize,
     g: Group,
     stack: &mut [[u64; 2]; 128],
@@ -35,7 +37,7 @@ fn push(
     height: usize,
 ) -> usize
     requires { ⌜ (count ≤ 128) × (height + count ≤ 128) × (g .start + g .whole ≤ 128) ⌝ }
-    requires { ⌜ (length (now parts) ≡ 128) × (jobsOf (take count (now parts)) ≡ g .whole) ⌝ }
+    requires { ⌜ Sized count (now parts) (now jobs) × (jobsOf (take count (now parts)) ≡ g .whole) ⌝ }
     requires { ⌜ Stacks (now stack) (now starts) (now kinds) (now sizes) height ⌝ }
     ensures { λ r. ⌜ r ≡ height + count ⌝ }
     ensures { λ r. ⌜ Stacks (now (stack .exit)) (now (starts .exit)) (now (kinds .exit)) (now (sizes .exit)) (height + count) ⌝ }
@@ -50,11 +52,12 @@ fn push(
     while 0 < i {
         i -= 1;
         let part = parts[i];
-        let size = set::size(part);
+        let own = jobs[i];
+        let size = wide(own);
         starts[top] = start_of(g, later, size);
         stack[top] = part;
         kinds[top] = !series;
-        sizes[top] = (size % 256) as u8;
+        sizes[top] = own;
         later += size;
         top += 1;
     }
@@ -151,6 +154,7 @@ fn put_group(
 // The top set becomes a group: its parts are spread out in its place.
 fn spread(
     parts: &[[u64; 2]; 128],
+    jobs: &[u8; 128],
     count: usize,
     stack: &mut [[u64; 2]; 128],
     starts: &mut [usize; 128],
@@ -159,7 +163,7 @@ fn spread(
     top: usize,
 ) -> usize
     requires { ⌜ (count ≤ 128) × (top + count ≤ 128) × (top < 128) ⌝ }
-    requires { ⌜ (length (now parts) ≡ 128) × Stacks (now stack) (now starts) (now kinds) (now sizes) (top + 1) ⌝ }
+    requires { ⌜ Sized count (now parts) (now jobs) × Stacks (now stack) (now starts) (now kinds) (now sizes) (top + 1) ⌝ }
     requires { ⌜ Opens (entryAt (now stack) (now starts) (now kinds) top) (take count (now parts)) ⌝ }
     ensures { λ r. ⌜ r ≡ top + count ⌝ }
     ensures { λ r. ⌜ Stacks (now (stack .exit)) (now (starts .exit)) (now (kinds .exit)) (now (sizes .exit)) (top + count) ⌝ }
@@ -175,7 +179,7 @@ fn spread(
         start,
         whole,
     };
-    push(parts, count, g, stack, starts, kinds, sizes, top)
+    push(parts, jobs, count, g, stack, starts, kinds, sizes, top)
 }
 
 fn wide(x: u8) -> usize
@@ -184,27 +188,31 @@ fn wide(x: u8) -> usize
     x as usize
 }
 
-// The parts of a set for a group of this kind.
+// The parts of a set for a group of this kind, in its order.
 fn split_as(
     tied: &[[u64; 2]; 128],
     free: &[[u64; 2]; 128],
     under: &[[u64; 2]; 128],
     series: bool,
     s: [u64; 2],
+    whole: usize,
     parts: &mut [[u64; 2]; 128],
+    jobs: &mut [u8; 128],
     numbers: &mut [u8; 128],
 ) -> usize
     requires { ⌜ Jobs s ⌝ }
+    requires { ⌜ whole ≡ sizeOf s ⌝ }
     requires { ⌜ Partial (holds (now under)) ⌝ }
-    requires { ⌜ (length (now parts) ≡ 128) × (length (now numbers) ≡ 128) ⌝ }
-    ensures { λ r. ⌜ Cut (closeOf series (holds (now (tied .entry))) (holds (now (free .entry)))) (holds (now (under .entry))) series s
-        (now (parts .exit)) r ⌝ }
-    ensures { λ r. ⌜ Numbered s (now (parts .exit)) r (now (numbers .entry)) (now (numbers .exit)) ⌝ }
+    requires { ⌜ (length (now parts) ≡ 128) × (length (now jobs) ≡ 128) × (length (now numbers) ≡ 128) ⌝ }
+    ensures { λ r. ⌜ Taken (closeOf series (holds (now (tied .entry))) (holds (now (free .entry)))) (holds (now (under .entry))) series s
+        (now (parts .exit)) (now (jobs .exit)) r (now (numbers .entry)) (now (numbers .exit)) ⌝ }
 {
     if series {
-        parts::split(free, under, true, s, parts, numbers)
+        parts::split(free, under, true, s, whole, parts, jobs, numbers)
     } else {
-        parts::split(tied, under, false, s, parts, numbers)
+        let count = parts::split(tied, under, false, s, whole, parts, jobs, numbers);
+        arrange::arrange(parts, jobs, count);
+        count
     }
 }
 
@@ -214,6 +222,7 @@ fn first_entry(
     under: &[[u64; 2]; 128],
     n: usize,
     parts: &mut [[u64; 2]; 128],
+    jobs: &mut [u8; 128],
     numbers: &mut [u8; 128],
     stack: &mut [[u64; 2]; 128],
     kinds: &mut [bool; 128],
@@ -221,13 +230,13 @@ fn first_entry(
 ) -> usize
     requires { ⌜ n ≤ 128 ⌝ }
     requires { ⌜ Partial (holds (now under)) ⌝ }
-    requires { ⌜ (length (now parts) ≡ 128) × (length (now numbers) ≡ 128) ⌝ }
+    requires { ⌜ (length (now parts) ≡ 128) × (length (now jobs) ≡ 128) × (length (now numbers) ≡ 128) ⌝ }
     ensures { λ r. ⌜ FirstEntry n (holds (now (free .entry))) (holds (now (under .entry))) (now (numbers .entry)) (now (numbers .exit))
         (now (stack .entry)) (now (stack .exit)) (now (kinds .entry)) (now (kinds .exit)) (now (sizes .entry)) (now (sizes .exit))
-        (now (parts .exit)) r ⌝ }
+        (now (parts .exit)) (now (jobs .exit)) r ⌝ }
 {
     let all = set::all_below(n);
-    let first = parts::split(free, under, true, all, parts, numbers);
+    let first = parts::split(free, under, true, all, n, parts, jobs, numbers);
     stack[0] = all;
     kinds[0] = 1 < first;
     sizes[0] = (n % 256) as u8;
@@ -307,6 +316,7 @@ pub fn shape_of(after: [[u64; 2]; 128], under: &[[u64; 2]; 128], n: usize) -> Sh
     let mut free = [[0; 2]; 128];
     compare(&after, under, n, &mut tied, &mut free);
     let mut parts = [[0; 2]; 128];
+    let mut jobs = [0; 128];
     let mut numbers = [0; 128];
     let mut stack = [[0; 2]; 128];
     let mut starts = [0; 128];
@@ -320,6 +330,7 @@ pub fn shape_of(after: [[u64; 2]; 128], under: &[[u64; 2]; 128], n: usize) -> Sh
         under,
         n,
         &mut parts,
+        &mut jobs,
         &mut numbers,
         &mut stack,
         &mut kinds,
@@ -334,6 +345,7 @@ pub fn shape_of(after: [[u64; 2]; 128], under: &[[u64; 2]; 128], n: usize) -> Sh
     if 1 < first {
         let height = spread(
             &parts,
+            &jobs,
             first,
             &mut stack,
             &mut starts,
@@ -347,17 +359,29 @@ pub fn shape_of(after: [[u64; 2]; 128], under: &[[u64; 2]; 128], n: usize) -> Sh
     while 0 < p.height {
         let top = p.height - 1;
         let s = stack[top];
-        if sizes[top] == 1 {
+        let whole = wide(sizes[top]);
+        if whole == 1 {
             let next = put_leaf(&mut fields, &mut forward, &mut reverse, &starts, s, p);
             p = next;
         } else {
             let series = kinds[top];
-            let count = split_as(&tied, &free, under, series, s, &mut parts, &mut numbers);
+            let count = split_as(
+                &tied,
+                &free,
+                under,
+                series,
+                s,
+                whole,
+                &mut parts,
+                &mut jobs,
+                &mut numbers,
+            );
             if count < 2 {
                 return no_shape();
             }
             let height = spread(
                 &parts,
+                &jobs,
                 count,
                 &mut stack,
                 &mut starts,

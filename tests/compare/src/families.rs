@@ -7,6 +7,7 @@ use crate::joins;
 use crate::preview;
 use crate::reason;
 use crate::runs;
+use crate::sides;
 use second::{cases, LONGEST_RECORD, LONGEST_SHEET, MOST_ORDERS};
 use std::collections::BTreeSet;
 
@@ -39,7 +40,7 @@ impl Task {
 
 /// All tasks, those of the heavy families first.
 pub fn tasks() -> Vec<Task> {
-    let families: [(&'static str, usize, Body); 64] = [
+    let families: [(&'static str, usize, Body); 68] = [
         (
             "sheets about the longest",
             LONG_COUNTS.len(),
@@ -167,6 +168,22 @@ pub fn tasks() -> Vec<Task> {
             LINE_COUNTS.len(),
             counted_hours_lines,
         ),
+        ("branches as orders", 5, sides::branch_orders),
+        (
+            "side children nearly in order",
+            sides::NEAR_PARTS,
+            sides::nearly_in_order,
+        ),
+        (
+            "side children in every sequence",
+            sides::SEQUENCE_PARTS,
+            sides::every_sequence,
+        ),
+        (
+            "records in the former order",
+            sides::FORMER_PARTS,
+            sides::former_order,
+        ),
         ("every order on up to 6 jobs", ORDER_PARTS, every_order),
         (
             "every relation on up to 4 jobs",
@@ -205,7 +222,7 @@ fn as_pairs(count: usize, hours: &[u16], orders: &Orders) -> Input {
 }
 
 /// The orders as a sheet and as a pair list, with hours, the record read back.
-fn both_ways(rng: &mut Rng, tally: &mut Tally, count: usize, orders: &Orders) {
+pub fn both_ways(rng: &mut Rng, tally: &mut Tally, count: usize, orders: &Orders) {
     let hours = hours(rng, count);
     let (record_area, reduced_area) = some_areas(rng);
     let outcome = tally.compare(&as_sheet(count, &hours, orders), record_area, reduced_area);
@@ -391,13 +408,15 @@ fn record_of(rng: &mut Rng, count: usize) -> Vec<u8> {
         .record
 }
 
-fn compare_record(rng: &mut Rng, tally: &mut Tally, record: Vec<u8>) {
+/// The bytes with an area for reduced orders, long enough mostly; the answer's number.
+pub fn compare_record(rng: &mut Rng, tally: &mut Tally, record: Vec<u8>) -> u64 {
     let reduced_area = if rng.percent(80) {
         ENOUGH.1
     } else {
         rng.below(12)
     };
-    tally.compare(&Input::Record(record), 0, reduced_area);
+    let outcome = tally.compare(&Input::Record(record), 0, reduced_area);
+    outcome.number
 }
 
 /// Records of accepted orders with a bit or a byte changed, shortened,

@@ -16,8 +16,8 @@ fn compare(rng: &mut Rng, tally: &mut Tally, tree: &Shape) {
 }
 
 /// Chains and side groups in turn, from two to as many in each other as there can be,
-/// their children of unequal widths: four such trees a round. Where the jobs ascend these
-/// stay as they were drawn.
+/// their children of unequal widths: four such trees a round. Of a chain these stay as
+/// they were drawn.
 pub fn uneven_trees(rng: &mut Rng, rounds: usize, mut each: impl FnMut(&mut Rng, &Shape)) {
     for round in 0..rounds {
         let count = small_or_any(rng);

@@ -1,5 +1,7 @@
 //! Inputs made from a seed.
 
+use std::cmp::Reverse;
+
 /// xorshift64* by Marsaglia and Vigna.
 pub struct Rng(u64);
 
@@ -77,6 +79,20 @@ impl Shape {
             Shape::Group { children, .. } => children.iter().flat_map(Shape::jobs).collect(),
         }
     }
+
+    pub fn smallest_job(&self) -> Option<usize> {
+        self.jobs().into_iter().min()
+    }
+
+    /// How many side groups there are.
+    pub fn sides(&self) -> usize {
+        match self {
+            Shape::Leaf(_) => 0,
+            Shape::Group { side, children } => {
+                *side as usize + children.iter().map(Shape::sides).sum::<usize>()
+            }
+        }
+    }
 }
 
 /// How a shape's jobs are parted.
@@ -141,20 +157,44 @@ fn shape_of(rng: &mut Rng, jobs: &[usize], side: bool, style: Style) -> Shape {
     Shape::Group { side, children }
 }
 
-/// Side children sorted by smallest job, all the way down.
-pub fn sort_sides(shape: &mut Shape) {
+/// Side children sorted so, all the way down.
+fn sort_sides<K: Ord>(shape: &mut Shape, by: fn(&Shape) -> K) {
     if let Shape::Group { side, children } = shape {
-        children.iter_mut().for_each(sort_sides);
+        let each = children.iter_mut();
+        each.for_each(|child| sort_sides(child, by));
         if *side {
-            children.sort_by_key(|child| child.jobs().into_iter().min());
+            children.sort_by_cached_key(by);
         }
     }
 }
 
-/// The tree with its side children sorted so.
+/// The tree with its side children as the plain form has them: most jobs first, equal
+/// ones by smallest job.
 pub fn plain(mut shape: Shape) -> Shape {
-    sort_sides(&mut shape);
+    let by = |child: &Shape| (Reverse(child.jobs().len()), child.smallest_job());
+    sort_sides(&mut shape, by);
     shape
+}
+
+/// The tree with its side children in the former order: by smallest job alone.
+pub fn former(mut shape: Shape) -> Shape {
+    sort_sides(&mut shape, Shape::smallest_job);
+    shape
+}
+
+/// Changes the children of the side group that has so many side groups ahead of it, node
+/// before children.
+pub fn change_side(shape: &mut Shape, ahead: &mut usize, change: &mut impl FnMut(&mut Vec<Shape>)) {
+    if let Shape::Group { side, children } = shape {
+        if *side {
+            if *ahead == 0 {
+                change(children);
+            }
+            *ahead = ahead.wrapping_sub(1);
+        }
+        let each = children.iter_mut();
+        each.for_each(|child| change_side(child, ahead, change));
+    }
 }
 
 pub fn leaves(jobs: &[usize]) -> Vec<Shape> {
@@ -215,15 +255,15 @@ fn unequal_sizes(rng: &mut Rng, total: usize) -> Vec<usize> {
     sizes
 }
 
-/// Groups of two of both kinds in turn, the outermost of this kind, each the last
-/// or the first child of the one ahead.
-pub fn nested(jobs: &[usize], side: bool, last: bool) -> Shape {
+/// Groups of two of both kinds in turn, the outermost of this kind, each the last or the
+/// first child of the one ahead, by the job that is the other.
+pub fn nested(jobs: &[usize], side: bool, last: fn(usize) -> bool) -> Shape {
     if jobs.len() == 1 {
         return Shape::Leaf(jobs[0]);
     }
     let inner = nested(&jobs[1..], !side, last);
     let mut children = vec![Shape::Leaf(jobs[0]), inner];
-    if !last {
+    if !last(jobs[0]) {
         children.reverse();
     }
     group(side, children)
@@ -231,15 +271,20 @@ pub fn nested(jobs: &[usize], side: bool, last: bool) -> Shape {
 
 /// Every plain tree on the jobs, which ascend.
 pub fn every_plain(jobs: &[usize]) -> Vec<Shape> {
-    let mut trees = every_plain_of(jobs, false);
+    every_former(jobs).into_iter().map(plain).collect()
+}
+
+/// Every one of them in the former order.
+pub fn every_former(jobs: &[usize]) -> Vec<Shape> {
+    let mut trees = every_former_of(jobs, false);
     if jobs.len() > 1 {
-        trees.extend(every_plain_of(jobs, true));
+        trees.extend(every_former_of(jobs, true));
     }
     trees
 }
 
 /// Those of them that are groups of this kind, or the leaf.
-fn every_plain_of(jobs: &[usize], side: bool) -> Vec<Shape> {
+fn every_former_of(jobs: &[usize], side: bool) -> Vec<Shape> {
     if jobs.len() == 1 {
         return leaves(jobs);
     }
@@ -266,7 +311,7 @@ fn every_list(jobs: &[usize], side: bool, most: usize) -> Vec<Vec<Shape>> {
             places.map(|place| jobs[place]).collect()
         };
         let rests = every_list(&chosen(0), side, jobs.len());
-        for first in every_plain_of(&chosen(1), !side) {
+        for first in every_former_of(&chosen(1), !side) {
             for rest in &rests {
                 lists.push([&[first.clone()], &rest[..]].concat());
             }
@@ -592,6 +637,7 @@ pub enum Flaw {
     JobOffTheList,
     GroupOfOne,
     UnsortedSides,
+    FormerOrder,
     SameKindInside,
     FillSet,
     MoreBytes,
@@ -599,13 +645,14 @@ pub enum Flaw {
     HoursOf(usize),
 }
 
-pub const FLAWS: [Flaw; 12] = [
+pub const FLAWS: [Flaw; 13] = [
     Flaw::None,
     Flaw::WrongCount,
     Flaw::JobTwice,
     Flaw::JobOffTheList,
     Flaw::GroupOfOne,
     Flaw::UnsortedSides,
+    Flaw::FormerOrder,
     Flaw::SameKindInside,
     Flaw::FillSet,
     Flaw::MoreBytes,
@@ -618,9 +665,11 @@ pub const FLAWS: [Flaw; 12] = [
 pub fn flawed_record(rng: &mut Rng, flaw: Flaw) -> Vec<u8> {
     let count = job_count(rng);
     let mut tree = shape(rng, count, flaw != Flaw::SameKindInside);
-    if flaw != Flaw::UnsortedSides {
-        sort_sides(&mut tree);
-    }
+    tree = match flaw {
+        Flaw::UnsortedSides => tree,
+        Flaw::FormerOrder => former(tree),
+        _ => plain(tree),
+    };
     let mut stated = count;
     match flaw {
         Flaw::WrongCount => {

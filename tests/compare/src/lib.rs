@@ -13,6 +13,7 @@ pub mod mock;
 pub mod preview;
 pub mod reason;
 pub mod runs;
+pub mod sides;
 
 use check::Tally;
 use families::Task;

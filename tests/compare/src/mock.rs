@@ -4,6 +4,7 @@
 mod gangs;
 mod preview;
 mod reason;
+mod sides;
 
 use crate::ffi;
 use crate::generate::{list, with_hours_of, Bits};
@@ -18,7 +19,7 @@ use std::sync::atomic::{AtomicUsize, Ordering};
 
 pub static FAULT: AtomicUsize = AtomicUsize::new(0);
 
-pub const FAULTS: [&str; 365] = [
+pub const FAULTS: [&str; 425] = [
     "none",
     "a byte after the record is set",
     "a byte after the reduced orders is set",
@@ -101,10 +102,64 @@ pub const FAULTS: [&str; 365] = [
     "a record of 464 bytes is too long",
     "a record over 272 bytes is too long",
     "a record without hours is read",
+    "side children are laid out by smallest job",
+    "side children are laid out by smallest job but for the largest",
+    "side children are laid out fewest jobs first",
+    "side children are laid out most jobs first, equal ones by largest job",
+    "side children are laid out most jobs first, equal ones by first leaf",
+    "side children are laid out most jobs first, equal ones by last leaf",
+    "side children are laid out most jobs first, equal ones downwards",
+    "side children are laid out most nodes first",
+    "side children are laid out most children first",
+    "side children are laid out most hours first",
+    "side children are laid out most gangs first",
+    "side children are laid out as if 64 jobs were none",
+    "side children are laid out as if 127 jobs were none",
+    "outermost side children are laid out by smallest job",
+    "inner side children are laid out by smallest job",
+    "the children of any group are laid out most jobs first",
+    "the forward sequence is by smallest job",
+    "the reverse sequence is by smallest job",
+    "the reverse sequence has equal side children from left to right",
+    "side children are read by smallest job",
+    "side children are read by smallest job but for the largest",
+    "side children are read fewest jobs first",
+    "side children are read most jobs first, equal ones by largest job",
+    "side children are read most jobs first, equal ones by first leaf",
+    "side children are read most jobs first, equal ones by last leaf",
+    "side children are read most jobs first, equal ones downwards",
+    "side children are read most nodes first",
+    "side children are read most children first",
+    "side children are read most hours first",
+    "side children are read most gangs first",
+    "side children are read as if 64 jobs were none",
+    "side children are read as if 127 jobs were none",
+    "outermost side children are read by smallest job",
+    "inner side children are read by smallest job",
+    "side children are read in any sequence",
+    "side children are read in any sequence where they are equal",
+    "side children are read in any sequence where they are unequal",
+    "side children are read with no two equal",
+    "side children are read as if one job more were none",
+    "side children are read most jobs first and by smallest job at once",
+    "side children are read in the former order too",
+    "side children are read each against the first",
+    "side children are read each against the one two places ahead",
+    "side children are read with jobs counted against the first's",
+    "side children are read with jobs counted against those two places ahead",
+    "side children are read with the smallest job against all ahead",
+    "side children are read in any sequence after the second",
+    "side children are read in order but for the first",
+    "side children are read in order but for the last",
+    "the children of any group are read most jobs first",
+    "outermost side children are read in any sequence",
+    "inner side children are read in any sequence",
     "the last child with the greatest total is taken",
     "the first child of a side group is taken",
-    "of children with the greatest total the one with most jobs is taken",
-    "the child with most jobs is taken",
+    "of children with the greatest total the one with most jobs in its run is taken",
+    "of children with the greatest total the one with the smallest job is taken",
+    "the child with most jobs in its run is taken",
+    "the child with the smallest job is taken",
     "a chain takes its child with the greatest total",
     "a side group adds its children's runs",
     "jobs with no hours are left out of a run",
@@ -126,7 +181,8 @@ pub const FAULTS: [&str; 365] = [
     "a run is given where a job stands twice",
     "a run is given where a job does not stand",
     "a run is given where a group is in one of its kind",
-    "a run is given where side children do not ascend",
+    "a run is given where side children are out of order",
+    "a run is given where side children are in the former order",
     "a chain numbers its children's gangs one after the other",
     "a chain joins its children's last gangs",
     "a chain has as many gangs as its first child",
@@ -134,7 +190,8 @@ pub const FAULTS: [&str; 365] = [
     "the children of a side group share gangs",
     "a side group has as many gangs as its widest child",
     "a later child's gangs are numbered ahead of an earlier one's",
-    "the gangs of the child with most jobs are numbered first",
+    "the gangs of the child with most gangs are numbered first",
+    "the gangs of the child with the smallest job are numbered first",
     "each job by its number has the first gang that can have it",
     "gangs are numbered by their smallest jobs",
     "gangs are numbered from 1",
@@ -161,7 +218,8 @@ pub const FAULTS: [&str; 365] = [
     "gangs are given where a job stands twice",
     "gangs are given where a job does not stand",
     "gangs are given where a group is in one of its kind",
-    "gangs are given where side children do not ascend",
+    "gangs are given where side children are out of order",
+    "gangs are given where side children are in the former order",
     "a job is taken for the leaf at its place",
     "the answer to a reason has the record's places",
     "the first job number has 8 bits",
@@ -213,6 +271,7 @@ pub const FAULTS: [&str; 365] = [
     "the child order is that of the job numbers",
     "the child order is that of the smallest jobs",
     "the child order is that of the numbers of jobs",
+    "the child order is that of side children",
     "the group over the lowest one is told",
     "the outermost group is told",
     "the group over the first job is told",
@@ -229,6 +288,7 @@ pub const FAULTS: [&str; 365] = [
     "positions are counted level by level",
     "positions are counted after the children",
     "positions go from right to left in side groups",
+    "positions go by smallest job in side groups",
     "positions are those in the group over the node",
     "the depth is told for a position",
     "positions leave out what is below earlier children",
@@ -257,7 +317,8 @@ pub const FAULTS: [&str; 365] = [
     "a reason is given where a job stands twice",
     "a reason is given where a job does not stand",
     "a reason is given where a group is in one of its kind",
-    "a reason is given where side children do not ascend",
+    "a reason is given where side children are out of order",
+    "a reason is given where side children are in the former order",
     "the third place of a preview is packed eight bits too high",
     "the order of a preview is turned",
     "the first number of the order has 8 bits",
@@ -656,10 +717,12 @@ unsafe fn analysed(
     if matches!(number, 5 | 6) && fault("the order's place counts from 1") {
         outcome.places[0] += 1;
     }
-    match asked {
+    let outcome = match asked {
         Some(asked) => asked.misheeded(outcome, lent),
         None => outcome,
-    }
+    };
+    let record = outcome.record.clone();
+    sides::laid_out(sides::listed(outcome, &record))
 }
 
 /// The text with every such piece exchanged.
@@ -1008,7 +1071,9 @@ fn widened(record: &[u8]) -> Option<Vec<u8>> {
 unsafe fn record_read(record: *const u8, record_len: usize, lent: &Lent) -> u64 {
     let mut record = from_raw_parts(record, record_len).to_vec();
     let count = record.first().map_or(0, |byte| (byte >> 1) as usize + 1);
-    let mut outcome = second::read_record(&record, lent.reduced_len);
+    let read = sides::read(&record);
+    let mut outcome = second::read_record_of(read.as_ref(), record_len, lent.reduced_len);
+    outcome = sides::listed(outcome, &record);
     if outcome.number == 11 {
         if lent.reduced_len < 2 && fault("10 is tested ahead of 11") {
             outcome = plain_refusal(10, 0);
@@ -1059,11 +1124,21 @@ fn run_of(tree: &Tree) -> Run {
             longest::first_greatest(runs)
         }
         Tree::Chain(_) => longest::added(runs),
-        Tree::Side(_) => run_of_side(runs),
+        Tree::Side(children) => run_of_side(children, runs),
     }
 }
 
-fn run_of_side(mut runs: Vec<Run>) -> Run {
+fn run_of_side(children: &[Tree], mut runs: Vec<Run>) -> Run {
+    let alone = "the child with the smallest job is taken";
+    let of_greatest = "of children with the greatest total the one with the smallest job is taken";
+    if fault(alone) || fault(of_greatest) {
+        let mut each: Vec<(&Tree, Run)> = children.iter().zip(runs).collect();
+        each.sort_by_key(|(child, _)| sides::smallest(child));
+        runs = each.into_iter().map(|(_, run)| run).collect();
+        if fault(alone) {
+            runs.truncate(1);
+        }
+    }
     if fault("the last child with the greatest total is taken") {
         runs.reverse();
     }
@@ -1071,10 +1146,10 @@ fn run_of_side(mut runs: Vec<Run>) -> Run {
         runs.truncate(1);
     }
     // Sorting keeps the order of equals.
-    if fault("of children with the greatest total the one with most jobs is taken") {
+    if fault("of children with the greatest total the one with most jobs in its run is taken") {
         runs.sort_by_key(|run| usize::MAX - run.jobs.len());
     }
-    if fault("the child with most jobs is taken") {
+    if fault("the child with most jobs in its run is taken") {
         runs.sort_by_key(|run| usize::MAX - run.jobs.len());
         runs.truncate(1);
     }
@@ -1088,7 +1163,7 @@ fn run_of_side(mut runs: Vec<Run>) -> Run {
 type Breaks = fn(&Tree, usize) -> bool;
 
 /// Rules that may not be tested.
-const UNTESTED: [(&str, Breaks); 5] = [
+const UNTESTED: [(&str, Breaks); 6] = [
     ("a group has one child", |tree, _| {
         !tree.groups_have_two_or_more()
     }),
@@ -1099,8 +1174,11 @@ const UNTESTED: [(&str, Breaks); 5] = [
     ("a group is in one of its kind", |tree, _| {
         !tree.no_chain_in_chain() || !tree.no_side_in_side()
     }),
-    ("side children do not ascend", |tree, _| {
-        !tree.side_children_ascend()
+    ("side children are out of order", |tree, _| {
+        !tree.side_children_in_order()
+    }),
+    ("side children are in the former order", |tree, _| {
+        !tree.side_children_in_order() && sides::is_former(tree)
     }),
 ];
 

@@ -35,10 +35,10 @@ pub fn any_trees(rng: &mut Rng, _: usize, tally: &mut Tally) {
 
 pub const EXTREME_PARTS: usize = 16;
 
-/// One group; groups of two, chain and side in turn, each the first child of the
-/// one ahead, each the last, and each where its jobs put it; groups of about the
-/// same number of jobs in one group. The outermost is of this kind; any jobs are
-/// given.
+/// One group; groups of about the same number of jobs in one group; groups of two,
+/// chain and side in turn, each the first child of the one ahead, each the last of a
+/// chain, and each the first or the last of a chain, by the job beside it. The outermost
+/// is of this kind; any jobs are given.
 pub fn extremes(rng: &mut Rng, any: &[usize], side: bool) -> [Shape; 7] {
     let count = any.len();
     let ascending: Vec<usize> = (0..count).collect();
@@ -48,9 +48,9 @@ pub fn extremes(rng: &mut Rng, any: &[usize], side: bool) -> [Shape; 7] {
         blocks(any, side, 1),
         blocks(any, side, 2),
         blocks(any, side, rng.from(1, count)),
-        nested(&descending, side, false),
-        nested(&ascending, side, true),
-        nested(any, side, true),
+        nested(&descending, side, |_| false),
+        nested(&ascending, side, |_| true),
+        nested(any, side, |job| job % 2 == 0),
     ]
     .map(plain)
 }

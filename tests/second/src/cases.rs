@@ -1,6 +1,7 @@
 //! Document 01's cases, a sheet or record for each of its misreadings, the line
-//! ends of request A.1 and the hours of request A.2. Document 01's sheets in the
-//! line form have an hours line of 0 for each job, its records hours of 0.
+//! ends of request A.1, the hours of request A.2 and the side groups of request
+//! A.8. Document 01's sheets in the line form have an hours line of 0 for each
+//! job, its records hours of 0.
 
 use crate::{analyse_pairs, printed, read_record, Outcome, LONGEST_RECORD, MOST_ORDERS};
 
@@ -192,16 +193,18 @@ pub fn cases() -> Vec<Case> {
         &["accepted 15 4 3"],
         false,
     ));
-    // The group that starts with leaf 2 has job 0 further right.
+    // Of two groups with as many jobs that which starts with leaf 3 has job 0 further
+    // right.
     cases.push(zero_case(
         false,
-        "3/2 0/",
+        "4/3 0/1 2/",
         &[
-            "accepted 11 1 2",
-            "record 0581808100000000008000",
-            "2 0",
-            "forward 2 0 1",
-            "reverse 1 2 0",
+            "accepted 15 2 3",
+            "record 078180818000000040404000080000",
+            "1 2",
+            "3 0",
+            "forward 3 0 1 2",
+            "reverse 1 2 3 0",
         ],
         true,
     ));
@@ -297,7 +300,68 @@ pub fn cases() -> Vec<Case> {
         &["accepted 7 1 1"],
         true,
     ));
+    cases.extend(side_cases());
     cases
+}
+
+/// Side groups: most jobs first, with hours of 0 and with others, and not the largest
+/// alone.
+const SIDES: [(&str, &[&str]); 3] = [
+    (
+        "3/0/0/0/1 2/",
+        &[
+            "accepted 11 1 2",
+            "record 0581808080001000000000",
+            "1 2",
+            "forward 1 2 0",
+            "reverse 0 1 2",
+        ],
+    ),
+    (
+        "3/5/6/7/1 2/",
+        &[
+            "accepted 11 1 2",
+            "record 0581808080301003800028",
+            "1 2",
+            "forward 1 2 0",
+            "reverse 0 1 2",
+        ],
+    ),
+    (
+        "7/0/0/0/0/0/0/0/1 2/4 5/5 6/",
+        &[
+            "accepted 22 3 3",
+            "record 0d83810200002800030004040400008000000000c000",
+            "1 2",
+            "4 5",
+            "5 6",
+            "forward 4 5 6 1 2 0 3",
+            "reverse 3 0 1 2 4 5 6",
+        ],
+    ),
+];
+
+/// Side groups out of order: those of the first two sheets by smallest job, the first
+/// one in a chain too, equal children by the first leaf, and the largest alone first.
+const OUT_OF_ORDER: [&[u8]; 5] = [
+    &[0x05, 0x81, 0, 0, 0x08, 0x08, 0x08, 0, 0x01, 0, 0],
+    &[0x05, 0x81, 0, 0, 0x58, 0x08, 0x08, 0x03, 0x01, 0, 0x38],
+    &[
+        0x07, 0x01, 0x03, 0, 0x0c, 0x08, 0, 0, 0x40, 0x40, 0x40, 0, 0x08, 0, 0,
+    ],
+    &[
+        0x07, 0x81, 0x80, 0x80, 0x80, 0, 0x10, 0, 0x40, 0x40, 0xc0, 0, 0, 0, 0,
+    ],
+    &[
+        0x0d, 0x83, 0x81, 0x02, 0, 0, 0x28, 0, 0x03, 0, 0, 0, 0, 0x40, 0x40, 0x40, 0, 0x08, 0, 0,
+        0xc0, 0,
+    ],
+];
+
+fn side_cases() -> Vec<Case> {
+    let sheets = SIDES.map(|(shown, says)| case(false, shown, says, true));
+    let records = OUT_OF_ORDER.map(record_case);
+    sheets.into_iter().chain(records).collect()
 }
 
 fn first_line(outcome: &Outcome) -> String {

@@ -1,6 +1,6 @@
 //! The analysis of order sheets and pair lists, the record reader, the longest
 //! run, the gangs, the reason between two jobs, the preview of one more order and the
-//! count of joins, written from document 01 and requests A.1 to A.7 alone by the
+//! count of joins, written from document 01 and requests A.1 to A.8 alone by the
 //! plainest search their words allow; the count with a circle, of which they say
 //! nothing, by the definition that the product has.
 
@@ -135,14 +135,24 @@ fn from_refusal_3(sheet: &Sheet, record_area: usize, reduced_area: usize) -> Out
 
 /// The record reader, with an area of the given length lent.
 pub fn read_record(record: &[u8], reduced_area: usize) -> Outcome {
-    let Some((count, tree)) = record::read(record) else {
+    read_record_of(record::read(record).as_ref(), record.len(), reduced_area)
+}
+
+/// The same of the job count and tree that were read from so many bytes, if these are a
+/// record.
+pub fn read_record_of(
+    read: Option<&(usize, Tree)>,
+    record_bytes: usize,
+    reduced_area: usize,
+) -> Outcome {
+    let Some((count, tree)) = read else {
         return refused(11, [0; 4]);
     };
-    let reduced = order::reduced(&tree.meaning(count));
+    let reduced = order::reduced(&tree.meaning(*count));
     if reduced_area < 2 * reduced.len() {
         return refused(10, [0; 4]);
     }
-    accepted(count, record.len(), &tree, &reduced, Vec::new())
+    accepted(*count, record_bytes, tree, &reduced, Vec::new())
 }
 
 fn accepted(

@@ -1,6 +1,7 @@
 //! Trees: their meaning, their sequences, and the plain tree of an order.
 
 use crate::order::{free, Before};
+use std::cmp::Reverse;
 
 #[derive(Clone, Debug, PartialEq, Eq, PartialOrd, Ord)]
 pub enum Tree {
@@ -61,10 +62,6 @@ impl Tree {
             nodes.iter().find_map(on_leaf).unwrap()
         };
         (0..count).map(of).collect()
-    }
-
-    pub fn smallest_job(&self) -> Option<usize> {
-        self.forward().into_iter().min()
     }
 
     /// u is before v exactly when the lowest node over both is a chain and u's
@@ -132,11 +129,12 @@ impl Tree {
         })
     }
 
-    pub fn side_children_ascend(&self) -> bool {
+    pub fn side_children_in_order(&self) -> bool {
+        let rank = |child: &Tree| side_rank(&child.forward());
         self.nodes().iter().all(|node| match node {
             Tree::Side(children) => children
                 .windows(2)
-                .all(|pair| pair[0].smallest_job() < pair[1].smallest_job()),
+                .all(|pair| rank(&pair[0]) < rank(&pair[1])),
             _ => true,
         })
     }
@@ -149,8 +147,14 @@ impl Tree {
             && self.every_job_stands(count)
             && self.no_chain_in_chain()
             && self.no_side_in_side()
-            && self.side_children_ascend()
+            && self.side_children_in_order()
     }
+}
+
+/// What a side group's children ascend by, of the jobs in each: the one with most jobs
+/// is first, and of equal ones that with the smallest job.
+pub fn side_rank(jobs: &[usize]) -> (Reverse<usize>, Option<usize>) {
+    (Reverse(jobs.len()), jobs.iter().min().copied())
 }
 
 /// The plain tree that means the order, if any does, with the hours of each job.
@@ -184,8 +188,8 @@ fn of_each(before: &Before, hours: &[usize], parts: Vec<Vec<usize>>) -> Option<V
         .collect()
 }
 
-/// The jobs in parts such that jobs of different parts are free: a flood fill
-/// from the smallest job left, over pairs that are not free.
+/// The jobs in parts such that jobs of different parts are free, as a side group has
+/// them: a flood fill from the smallest job left, over pairs that are not free.
 fn side_parts(before: &Before, jobs: &[usize]) -> Vec<Vec<usize>> {
     let mut left = jobs.to_vec();
     let mut parts = Vec::new();
@@ -202,6 +206,7 @@ fn side_parts(before: &Before, jobs: &[usize]) -> Vec<Vec<usize>> {
         part.sort();
         parts.push(part);
     }
+    parts.sort_by_key(|part| side_rank(part));
     parts
 }
 

@@ -1,7 +1,9 @@
-//! What document 01 and requests A.1 to A.7 say of single sheets, lists and
+//! What document 01 and requests A.1 to A.8 say of single sheets, lists and
 //! records.
 
 use second::cases::{cases, sheet, widest, zeros, Input};
+use second::record::lay_out;
+use second::tree::Tree;
 use second::{
     analyse_pairs, analyse_sheet, gangs, joins, longest_run, packed, preview, printed, read_record,
     reason, reason_of, GangPlan, LongestRun, Outcome, Reason, LONGEST_RECORD, LONGEST_SHEET,
@@ -96,8 +98,8 @@ fn records_of_accepted_cases_read_back() {
 fn seen_orders_that_are_no_n() {
     let outcome = zero_analysed("5/0 2/1 2/1 3/0 4/4 3/1 4/");
     assert_eq!(outcome.reduced, [0, 2, 0, 4, 1, 2, 1, 4, 4, 3]);
-    assert_eq!(outcome.forward[..5], [0, 1, 2, 4, 3]);
-    assert_eq!(outcome.reverse[..5], [1, 0, 4, 3, 2]);
+    assert_eq!(outcome.forward[..5], [0, 1, 4, 3, 2]);
+    assert_eq!(outcome.reverse[..5], [1, 0, 2, 4, 3]);
 }
 
 /// The longest sheet with these line ends: 128 jobs, hours of four digits, as
@@ -571,6 +573,85 @@ fn hours_of_each_leaf() {
     }
 }
 
+/// Hours for 8 jobs: none, and some.
+const EACH_HOURS: [[usize; 8]; 2] = [[0; 8], [7, 4095, 0, 1, 40, 2048, 3, 16]];
+
+/// The sheet of these orders with hours for so many jobs.
+fn with_hours(count: usize, hours: &[usize], orders: &str) -> String {
+    let lines = hours[..count].iter().map(|hours| format!("{hours}/"));
+    format!("{count}/") + &lines.collect::<String>() + orders
+}
+
+/// Request A.8, by the two sequences.
+#[test]
+fn largest_branch_first() {
+    for (count, orders, forward, reverse) in [
+        (3, "1 2/", &[1, 2, 0][..], &[0, 1, 2][..]),
+        (3, "2 0/", &[2, 0, 1], &[1, 2, 0]),
+        (5, "0 1/2 3/3 4/", &[2, 3, 4, 0, 1], &[0, 1, 2, 3, 4]),
+        // Not the largest alone.
+        (6, "1 2/3 4/4 5/", &[3, 4, 5, 1, 2, 0], &[0, 1, 2, 3, 4, 5]),
+        (
+            7,
+            "1 2/4 5/5 6/",
+            &[4, 5, 6, 1, 2, 0, 3],
+            &[3, 0, 1, 2, 4, 5, 6],
+        ),
+        // Equal ones by smallest job, be it the first leaf or not.
+        (3, "", &[0, 1, 2], &[2, 1, 0]),
+        (4, "0 3/1 2/", &[0, 3, 1, 2], &[1, 2, 0, 3]),
+        (4, "3 0/1 2/", &[3, 0, 1, 2], &[1, 2, 3, 0]),
+        (6, "4 1/5 0/3 2/", &[5, 0, 4, 1, 3, 2], &[3, 2, 4, 1, 5, 0]),
+        (
+            6,
+            "5 3/5 0/1 2/2 4/",
+            &[5, 0, 3, 1, 2, 4],
+            &[1, 2, 4, 5, 3, 0],
+        ),
+        // Equal in jobs, whatever their groups: a job before two beside three in a row,
+        // both ways round.
+        (
+            6,
+            "0 1/0 2/3 4/4 5/",
+            &[0, 1, 2, 3, 4, 5],
+            &[3, 4, 5, 0, 2, 1],
+        ),
+        (
+            6,
+            "3 4/3 5/0 1/1 2/",
+            &[0, 1, 2, 3, 4, 5],
+            &[3, 5, 4, 0, 1, 2],
+        ),
+        // A side group in a chain, and such a chain in a side group.
+        (5, "4 0/4 1/4 3/1 2/", &[4, 1, 2, 0, 3], &[4, 3, 0, 1, 2]),
+        (5, "0 4/2 4/3 4/1 2/", &[1, 2, 0, 3, 4], &[3, 0, 1, 2, 4]),
+        (
+            7,
+            "0 1/0 2/2 3/4 5/5 6/",
+            &[0, 2, 3, 1, 4, 5, 6],
+            &[4, 5, 6, 0, 1, 2, 3],
+        ),
+        (
+            8,
+            "0 1/1 2/3 4/3 5/5 6/6 7/",
+            &[3, 5, 6, 7, 4, 0, 1, 2],
+            &[0, 1, 2, 3, 4, 5, 6, 7],
+        ),
+    ] {
+        for hours in EACH_HOURS {
+            let outcome = analysed(&with_hours(count, &hours, orders));
+            assert_eq!(outcome.number, 0, "{orders}");
+            assert_eq!(outcome.forward[..count], *forward, "{orders}");
+            assert_eq!(outcome.reverse[..count], *reverse, "{orders}");
+            let back = read_record(&outcome.record, ENOUGH.1);
+            assert_eq!(
+                (back.forward, back.reverse),
+                (outcome.forward, outcome.reverse)
+            );
+        }
+    }
+}
+
 /// The total and the jobs of the longest run of a sheet's record.
 fn run(shown: &str) -> (u64, Vec<u8>) {
     let run = longest_run(&analysed(shown).record);
@@ -593,14 +674,21 @@ fn longest_runs() {
         ("2/4/3/", 4, &[0]),
         ("2/4/4/", 4, &[0]),
         ("4/1/7/7/7/", 7, &[1]),
-        // The first child is the chain 2, 0, though its leaf 2 is above job 1.
+        // The first child is the one with most jobs, whatever these are.
         ("3/2/5/3/2 0/", 5, &[2, 0]),
         ("3/2/6/3/2 0/", 6, &[1]),
-        // Equal totals: the first child, whether it has fewer jobs or more.
-        ("3/4/3/1/1 2/", 4, &[0]),
+        ("3/4/3/1/1 2/", 4, &[1, 2]),
+        ("3/5/3/1/1 2/", 5, &[0]),
         ("3/1/4/3/0 2/", 4, &[0, 2]),
-        ("3/0/0/0/1 2/", 0, &[0]),
+        ("3/0/0/0/1 2/", 0, &[1, 2]),
         ("3/0/0/0/0 2/", 0, &[0, 2]),
+        // Of equal ones it is the chain 3, 0, though its leaf 3 is above job 1.
+        ("4/1/2/2/3/3 0/1 2/", 4, &[3, 0]),
+        ("4/1/2/3/3/3 0/1 2/", 5, &[1, 2]),
+        // The first child has most jobs, the run in it has fewer: equal totals, then that
+        // of the other is greater.
+        ("7/1/1/1/2/1/1/1/0 1/1 2/3 4/3 5/3 6/", 3, &[3, 4]),
+        ("7/1/1/2/2/1/1/1/0 1/1 2/3 4/3 5/3 6/", 4, &[0, 1, 2]),
         // The sample, with job 4 aside; then with a longer job 2, and with 4 as long as the
         // chain, and longer.
         ("5/40/16/16/24/8/0 1/0 2/1 3/2 3/0 3/", 80, &[0, 1, 3]),
@@ -673,9 +761,11 @@ fn fewest_gangs() {
         // A side group numbers one after the other, gangs of no hours too.
         ("2/3/4/", &[3, 4], &[0, 1]),
         ("4/1/0/7/0/", &[1, 0, 7, 0], &[0, 1, 2, 3]),
-        // The first child is the chain 2, 0, though its leaf 2 is above job 1.
+        // The first child is the one with most jobs; of equal ones it is the chain 3, 0,
+        // though its leaf 3 is above job 1.
         ("3/1/2/4/2 0/", &[5, 2], &[0, 1, 0]),
-        ("3/1/2/4/1 2/", &[1, 6], &[0, 1, 1]),
+        ("3/1/2/4/1 2/", &[6, 1], &[1, 0, 0]),
+        ("4/1/2/4/8/3 0/1 2/", &[9, 6], &[0, 1, 1, 0]),
         // Side groups in a chain: as wide, one way round and the other; the first wider,
         // with a leaf between; the last wider.
         ("4/1/2/4/8/0 2/0 3/1 2/1 3/", &[5, 10], &[0, 1, 0, 1]),
@@ -686,17 +776,17 @@ fn fewest_gangs() {
             &[0, 1, 2, 0, 0, 1],
         ),
         ("4/1/2/4/8/0 1/0 2/0 3/", &[3, 4, 8], &[0, 0, 1, 2]),
-        // Side by side: 0 and 1 before 2, and 3 before 4, 5 and 6.
+        // Side by side: 3 before 4, 5 and 6, then 0 and 1 before 2.
         (
             "7/1/2/4/8/16/32/64/0 2/1 2/3 4/3 5/3 6/",
-            &[5, 2, 24, 32, 64],
-            &[0, 1, 0, 2, 2, 3, 4],
+            &[24, 32, 64, 5, 2],
+            &[3, 4, 3, 0, 0, 1, 2],
         ),
-        // In a chain: 0 before 1, and 2 aside; then 3, and 4 before 5 and 6 aside.
+        // In a chain: 0 before 1, and 2 aside; then 4 before 5 and 6, and 3 aside.
         (
             "7/1/2/4/8/16/32/64/0 1/1 3/1 4/2 3/2 4/4 5/4 6/",
-            &[11, 52, 64],
-            &[0, 0, 1, 0, 1, 1, 2],
+            &[51, 68, 8],
+            &[0, 0, 1, 2, 0, 0, 1],
         ),
     ] {
         let expected = (hours.to_vec(), of_jobs.to_vec());
@@ -770,13 +860,22 @@ fn reasons() {
     every_two("2/3/4/0 1/", &[&[one, before], &[after, other]]);
     every_two("2/3/4/1 0/", &[&[other, after], &[before, one]]);
     every_two("2/3/4/", &[&[one, free], &[free, other]]);
-    // A side group of the chain 2, 0, which is its first child, and of 1.
+    // A side group of the chain 2, 0 and of 1, then of the chain 1, 2 and of 0: the chain
+    // is its first child.
     every_two(
         "3/0/0/0/2 0/",
         &[
             &[[1, 3, 1], [4, 0, 3], [3, 1, 2]],
             &[[4, 0, 3], [1, 4, 1], [4, 0, 3]],
             &[[2, 1, 2], [4, 0, 3], [1, 2, 1]],
+        ],
+    );
+    every_two(
+        "3/0/7/0/1 2/",
+        &[
+            &[[1, 4, 1], [4, 0, 3], [4, 0, 3]],
+            &[[4, 0, 3], [1, 2, 1], [2, 1, 2]],
+            &[[4, 0, 3], [3, 1, 2], [1, 3, 1]],
         ],
     );
     // A chain of the side groups 0, 2 and 1, 3: positions 1 and 4.
@@ -833,19 +932,25 @@ fn reasons_of_128_jobs() {
             };
             let half = u / 64;
             let low = u.min(v);
+            // A chain, its leaf and a side group by turns, then the side groups' leaves.
+            let group = 3 * (low / 2) + 2 * (low % 2);
             let mut expected = [
                 [rule(true), 0, 128],
                 [5 - rule(true), 0, 128],
                 [rule(false), 0, 128],
                 [rule(true), 0, 128],
-                [rule(low % 2 == 0), 2 * low, 128 - low],
+                [rule(low % 2 == 0), group, 128 - low],
             ];
             if half == v / 64 {
                 expected[3] = [rule(false), 1 + 65 * half, 64];
             }
             if u == v {
                 let leaf = |position: u64| [1, position, 1];
-                let deep = if u == 127 { 254 } else { 2 * u + 1 };
+                let deep = match u {
+                    127 => 191,
+                    _ if u % 2 == 0 => group + 1,
+                    _ => 254 - u / 2,
+                };
                 let in_half = u + 2 + half;
                 expected = [u + 1, 128 - u, u + 1, in_half, deep].map(leaf);
             }
@@ -928,24 +1033,78 @@ fn no_records() -> Vec<Vec<u8>> {
     none
 }
 
-#[test]
-fn no_run_and_no_gangs_of_what_is_no_record() {
-    let no_run = LongestRun {
+fn no_run() -> LongestRun {
+    LongestRun {
         number: 11,
         places: [0; 4],
         total: 0,
         jobs: Vec::new(),
-    };
-    let no_gangs = GangPlan {
+    }
+}
+
+fn no_gangs() -> GangPlan {
+    GangPlan {
         number: 11,
         places: [0; 4],
         hours: Vec::new(),
         gangs: Vec::new(),
-    };
-    for bytes in no_records() {
-        assert_eq!(longest_run(&bytes), no_run, "{bytes:?}");
-        assert_eq!(gangs(&bytes), no_gangs, "{bytes:?}");
     }
+}
+
+#[test]
+fn no_run_and_no_gangs_of_what_is_no_record() {
+    for bytes in no_records() {
+        assert_eq!(longest_run(&bytes), no_run(), "{bytes:?}");
+        assert_eq!(gangs(&bytes), no_gangs(), "{bytes:?}");
+    }
+}
+
+/// Side groups as the sheets have them are read; with their two children exchanged they
+/// are not.
+#[test]
+fn side_children_the_other_way_round() {
+    for hours in EACH_HOURS {
+        let leaf = |job: usize| Tree::Leaf {
+            job,
+            hours: hours[job],
+        };
+        let chain = |jobs: &[usize]| Tree::Chain(jobs.iter().map(|&job| leaf(job)).collect());
+        for (count, orders, [first, second]) in [
+            // Exchanged they are in the former order, by smallest job.
+            (3, "1 2/", [chain(&[1, 2]), leaf(0)]),
+            (3, "2 1/", [chain(&[2, 1]), leaf(0)]),
+            (5, "0 1/2 3/3 4/", [chain(&[2, 3, 4]), chain(&[0, 1])]),
+            (5, "2 3/3 1/4 0/", [chain(&[2, 3, 1]), chain(&[4, 0])]),
+            // By the first leaf.
+            (3, "2 0/", [chain(&[2, 0]), leaf(1)]),
+            (4, "3 0/1 2/", [chain(&[3, 0]), chain(&[1, 2])]),
+            // By neither.
+            (2, "", [leaf(0), leaf(1)]),
+            (4, "0 3/1 2/", [chain(&[0, 3]), chain(&[1, 2])]),
+        ] {
+            let right = Tree::Side(vec![first.clone(), second.clone()]);
+            let wrong = Tree::Side(vec![second, first]);
+            let record = analysed(&with_hours(count, &hours, orders)).record;
+            assert_eq!(record, lay_out(count, &right));
+            // Alone, then in a chain after a job and ahead of it.
+            let after = |side: &Tree| Tree::Chain(vec![leaf(count), side.clone()]);
+            let ahead = |side: &Tree| Tree::Chain(vec![side.clone(), leaf(count)]);
+            one_is_read(count, &right, &wrong);
+            one_is_read(count + 1, &after(&right), &after(&wrong));
+            one_is_read(count + 1, &ahead(&right), &ahead(&wrong));
+        }
+    }
+}
+
+/// The first tree's record is read; the second's is refused by every call that takes one.
+fn one_is_read(count: usize, right: &Tree, wrong: &Tree) {
+    let read = read_record(&lay_out(count, right), ENOUGH.1);
+    assert_eq!(read.number, 0, "{right:?}");
+    let bytes = lay_out(count, wrong);
+    refused(&read_record(&bytes, ENOUGH.1), 11, [0; 4]);
+    assert_eq!(longest_run(&bytes), no_run(), "{wrong:?}");
+    assert_eq!(gangs(&bytes), no_gangs(), "{wrong:?}");
+    assert_eq!(reason(&bytes, 0, 1), no_reason(11), "{wrong:?}");
 }
 
 /// Holds the preview of an order to what is said, and to the analysis of the copy.

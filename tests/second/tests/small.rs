@@ -7,6 +7,7 @@ use second::{
     analyse_pairs, gangs, joins, longest_run, preview, read_record, reason, reason_of, record,
     sheet, GangPlan, Reason,
 };
+use std::cmp::Ordering;
 use std::collections::{BTreeMap, HashSet};
 
 /// Different hours for each job, 0 and the most among them.
@@ -68,6 +69,19 @@ fn jobs(count: usize) -> Vec<usize> {
     (0..count).collect()
 }
 
+fn smallest_job(tree: &Tree) -> Option<usize> {
+    tree.forward().into_iter().min()
+}
+
+/// How one child of a side group stands to another: with more jobs it is ahead, with
+/// fewer it is behind, and with as many it goes by the smallest job.
+fn stands_ahead(one: &Tree, other: &Tree) -> Ordering {
+    match other.forward().len().cmp(&one.forward().len()) {
+        Ordering::Equal => smallest_job(one).cmp(&smallest_job(other)),
+        unequal => unequal,
+    }
+}
+
 /// u is before v in the tree, in the definition's words.
 fn is_before(tree: &Tree, u: usize, v: usize) -> bool {
     let child_with = |job| {
@@ -107,6 +121,53 @@ fn one_plain_tree_for_each_order_a_tree_means() {
             assert_eq!(plain.len(), 1);
             assert_eq!(first_n(&meaning), None);
             assert_eq!(of_order(&meaning, &HOURS), Some(plain[0].clone()));
+        }
+    }
+}
+
+/// The tree with the children of every side group by smallest job alone, the former
+/// order.
+fn former(tree: &Tree) -> Tree {
+    let mut children: Vec<Tree> = tree.children().iter().map(former).collect();
+    match tree {
+        Tree::Leaf { .. } => tree.clone(),
+        Tree::Chain(_) => Tree::Chain(children),
+        Tree::Side(_) => {
+            children.sort_by_key(smallest_job);
+            Tree::Side(children)
+        }
+    }
+}
+
+/// Of any two children of a side group the one further left has more jobs, or as many and
+/// the smaller smallest job. A record in the former order is read where that is the same,
+/// and else made again.
+#[test]
+fn side_children_of_plain_trees() {
+    for (count, changed) in [(1, 0), (2, 0), (3, 2), (4, 34), (5, 710)] {
+        let trees = all_trees(&jobs(count)).into_iter();
+        let plain: Vec<Tree> = trees.filter(|tree| tree.is_plain(count)).collect();
+        for node in plain.iter().flat_map(Tree::nodes) {
+            let Tree::Side(children) = node else {
+                continue;
+            };
+            for right in 1..children.len() {
+                for left in 0..right {
+                    let ahead = stands_ahead(&children[left], &children[right]);
+                    assert_eq!(ahead, Ordering::Less, "{node:?}");
+                }
+            }
+        }
+        let former: Vec<Tree> = plain.iter().map(former).collect();
+        let differ = |(new, former): &(&Tree, &Tree)| new != former;
+        let differing = plain.iter().zip(&former).filter(differ).count();
+        assert_eq!(differing, changed, "{count} jobs");
+        for (new, former) in plain.iter().zip(&former) {
+            let bytes = record::lay_out(count, former);
+            assert_eq!(record::read(&bytes).is_some(), new == former, "{former:?}");
+            // Made again from its sheet.
+            let again = of_order(&former.meaning(count), &HOURS);
+            assert_eq!(again.as_ref(), Some(new));
         }
     }
 }
@@ -437,7 +498,7 @@ fn some_tree(numbers: &mut Numbers, jobs: &[usize], side: bool) -> Tree {
     let mut child = |ends: &[usize]| some_tree(numbers, &jobs[ends[0]..ends[1]], !side);
     let mut children: Vec<Tree> = cuts.windows(2).map(&mut child).collect();
     if side {
-        children.sort_by_key(Tree::smallest_job);
+        children.sort_by(stands_ahead);
         Tree::Side(children)
     } else {
         Tree::Chain(children)

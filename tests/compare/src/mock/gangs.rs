@@ -1,6 +1,7 @@
 //! The gangs of a record, wrong in one way. They are made otherwise than in `second`:
 //! each job is put into its gang on the way down the tree.
 
+use super::sides::smallest;
 use super::{answer_to, fault, let_pass};
 use crate::ffi::{and_zeros, GangPlan};
 use second::gangs;
@@ -138,8 +139,11 @@ fn fill_side(plan: &mut GangPlan, mut children: Vec<&Tree>, from: usize) -> usiz
         children.reverse();
     }
     // Sorting keeps the order of equals.
-    if fault("the gangs of the child with most jobs are numbered first") {
-        children.sort_by_key(|child| Reverse(child.forward().len()));
+    if fault("the gangs of the child with most gangs are numbered first") {
+        children.sort_by_key(|child| Reverse(gangs::of_tree(child).len()));
+    }
+    if fault("the gangs of the child with the smallest job are numbered first") {
+        children.sort_by_key(|child| smallest(child));
     }
     if fault("the children of a side group share gangs") {
         return most(&fill_each(plan, &children, from));

@@ -3,7 +3,7 @@
 
 use super::{answer_to, fault, let_pass, FAULT};
 use crate::ffi::Reason;
-use second::tree::Tree;
+use second::tree::{side_rank, Tree};
 use std::cell::RefCell;
 use std::cmp::Reverse;
 use std::rc::Rc;
@@ -98,18 +98,17 @@ impl Listed {
         std::iter::successors(Some(at), |&at| self.nodes[at].over).collect()
     }
 
-    /// The places of the nodes from the root down to this one, those in side groups
-    /// turned, so that the last child comes first.
-    fn turned_places(&self, at: usize) -> Vec<isize> {
-        let turned = |at: &usize| {
+    /// The places of the nodes from the root down to this one, those in side groups by
+    /// what is given for them.
+    fn places(&self, at: usize, in_side: impl Fn(usize) -> isize) -> Vec<isize> {
+        let place = |at: &usize| {
             let node = &self.nodes[*at];
-            let place = node.place as isize;
             match node.over.map(|over| self.nodes[over].kind) {
-                Some(Kind::Side) => -place,
-                _ => place,
+                Some(Kind::Side) => in_side(*at),
+                _ => node.place as isize,
             }
         };
-        self.upwards(at).iter().rev().map(turned).collect()
+        self.upwards(at).iter().rev().map(place).collect()
     }
 
     /// How many nodes come ahead of this one by another sequence.
@@ -389,6 +388,10 @@ fn is_earlier(listed: &Listed, children: [Option<usize>; 2], pair: [usize; 2]) -
         let [first, second] = children.map(|child| listed.jobs(child.unwrap_or(0)).len());
         return first < second;
     }
+    if fault("the child order is that of side children") {
+        let [first, second] = children.map(|child| side_rank(&listed.jobs(child.unwrap_or(0))));
+        return first < second;
+    }
     children[0] < children[1]
 }
 
@@ -485,7 +488,12 @@ fn counted(listed: &Listed, at: usize) -> usize {
         return listed.ahead(at, by);
     }
     if fault("positions go from right to left in side groups") {
-        return listed.ahead(at, |at| listed.turned_places(at));
+        let turned = |at: usize| -(listed.nodes[at].place as isize);
+        return listed.ahead(at, |at| listed.places(at, turned));
+    }
+    if fault("positions go by smallest job in side groups") {
+        let smallest = |at: usize| listed.jobs(at).into_iter().min().unwrap_or(0) as isize;
+        return listed.ahead(at, |at| listed.places(at, smallest));
     }
     if fault("positions are those in the group over the node") {
         return at - node.over.unwrap_or(0);

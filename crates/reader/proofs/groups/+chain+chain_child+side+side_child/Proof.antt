@@ -1,20 +1,21 @@
 -- The readers of groups meet their contracts, each answer by a law over the kind. The measure is twice the bits left of the bytes, and one more for a
 -- reader of several children. The invariant of the loops: some children are read, and what may stand there after them may stand after all.
 use Prim.Native.Nat.{ℕ, _<_}
-use mathlib.Core.Path.{subst}
+use mathlib.Core.Path.{refl, sym, subst, _∙_}
 use native.Mathlib.Omega.{arith}
 use borrow.Author.Needs.{needs}
 use borrow.Author.Tests.{not-true, not-false}
 use borrow.Fn.Kinds.{In}
 use borrow.Fn.PlainCycle.{Measures, is, falls, and}
 use Rattle.poset.specs.Tree.{series, parallel}
+use Rattle.poset.proofs.Laws.{clash}
 use Rattle.record.specs.Bits.{bitsOf}
 use Rattle.record.specs.Layout.{kindBit}
 use Rattle.reader.specs.Fields.{NodeAt}
 use Rattle.reader.specs.Parts.{place}
-use Rattle.reader.proofs.Refusals.{above-all}
+use Rattle.reader.proofs.Refusals.{refused-not}
 use Rattle.reader.proofs.Child.{child-leaf, child-none, child-full, child-group}
-use Rattle.reader.proofs.Children.{child-bounded, Run, run-begin, run-end, run-last, run-none, run-more}
+use Rattle.reader.proofs.Children.{child-bounded, Run, run-begin, run-end, run-last, run-none, run-behind, run-more}
 use Rattle.reader.proofs.Calls.{childMeasure, childrenMeasure, call-child, call-children, node-place}
 use Rattle.reader.proofs.groups.chain.Reads as chain
 use Rattle.reader.proofs.groups.chain.Kinds as chain-kinds
@@ -30,7 +31,7 @@ use Rattle.reader.proofs.groups.side_child.Kinds as side-child-kinds
 use Rattle.reader.proofs.groups.+chain+chain_child+side+side_child.Lts-side_child as side-child-lts
 use Rattle.reader.proofs.groups.place.Reads as place-reads
 use Rattle.reader.proofs.nodes.node_at.Reads as node-at-reads
-use Rattle.reader.proofs.parts.above.Reads as above-reads
+use Rattle.reader.proofs.parts.outranks.Reads as outranks-reads
 use Rattle.reader.proofs.parts.chained.Reads as chained-reads
 use Rattle.reader.proofs.parts.leaf.Reads as leaf-reads
 use Rattle.reader.proofs.parts.refused.Reads as refused-reads
@@ -49,7 +50,7 @@ abbrev μ-side : Measures 5 side-kinds.ps ℕ
 μ-side κs a = childrenMeasure (a .0 .now) (a .1 .1 .1 .0) (a .1 .1 .1 .1 .0)
 
 abbrev μ-side-child : Measures 5 side-child-kinds.ps ℕ
-μ-side-child κs a = childMeasure (a .0 .now) (a .1 .1 .1 .0) (a .1 .1 .1 .1 .0)
+μ-side-child κs a = childMeasure (a .0 .now) (a .1 .1 .0) (a .1 .1 .1 .0)
 
 abbrev chain-at : ℕ → In 5 chain-kinds.ps
 chain-at t = and 5 chain-kinds.ps (is 5 chain-kinds.ps μ-chain t) chain.Pre
@@ -111,6 +112,10 @@ side-calls t = (
   unread-reads.Learnt,
   side-child-below t,
   side-child.Post,
+  outranks-reads.Asked,
+  outranks-reads.Learnt,
+  refused-reads.Asked,
+  refused-reads.Learnt,
   sided-reads.Asked,
   sided-reads.Learnt,
 )
@@ -127,13 +132,11 @@ side-child-calls t = (
   refused-reads.Learnt,
   chain-below t,
   chain.Post,
-  above-reads.Asked,
-  above-reads.Learnt,
 )
 
 abbrev chain-Inv-loop : chain-lts.InvT-loop
 chain-Inv-loop bytes count more done groups seen₀ forward₀ next₀ hours₀ part₀ left₀ seen forward next hours part left =
-    Run series bytes count more done groups (record { seen = seen₀; forward = forward₀; next = next₀; hours = hours₀ }) left 0
+    Run series bytes count more done groups (record { seen = seen₀; forward = forward₀; next = next₀; hours = hours₀ }) left 0 0
     (record { seen = seen; forward = forward; next = next; hours = hours }) part
 
 abbrev chain-μ-loop : chain-lts.MeasureT-loop
@@ -158,14 +161,14 @@ chain-returns t c =
     let k = c .before .before in
     let i = k .before .before .before .before .before in
     let p = i .before .before .before .before .pre in
-    run-none series _ _ _ _ _ _ (p .1 .1) _ _ _ _ (i .before .loop .inv) _ _ (k .chain-child .ensures) (i .loop-test .taken) (not-true _ (c .if1 .taken))
+    run-none series _ _ _ _ _ _ (p .1 .1) _ _ _ _ _ (i .before .loop .inv) _ _ (k .chain-child .ensures) (i .loop-test .taken) (not-true _ (c .if1 .taken))
 
 chain-chained-requires : (t : ℕ) → chain-lts.Need-chained-requires (chain-calls t) (chain-at t) chain.Post chain-Inv-loop chain-μ-loop
 chain-chained-requires t c κs =
     let k = c .before .before .before in
     let i = k .before .before .before .before .before in
     let p = i .before .before .before .before .pre in
-    run-last series _ _ _ _ _ _ (p .1 .1) _ _ _ _ (i .before .loop .inv)
+    run-last series _ _ _ _ _ _ (p .1 .1) _ _ _ _ _ (i .before .loop .inv)
 
 chain-sub-left : (t : ℕ) → chain-lts.Need-sub-left (chain-calls t) (chain-at t) chain.Post chain-Inv-loop chain-μ-loop
 chain-sub-left t c =
@@ -186,14 +189,14 @@ chain-loop-again t c =
     let k = c .before .before .before .before in
     let i = k .before .before .before .before .before in
     let p = i .before .before .before .before .pre in
-    run-more series _ _ _ _ _ _ (p .1 .1) _ _ _ _ (i .before .loop .inv) _ _ (k .chain-child .ensures) (i .loop-test .taken)
-    (not-false _ (c .before .before .if1 .left)) _ _ (c .chained .ensures .0) (c .chained .ensures .1)
+    run-more series _ _ _ _ _ _ (p .1 .1) _ _ _ _ _ (i .before .loop .inv) _ _ (k .chain-child .ensures) (i .loop-test .taken)
+    (not-false _ (c .before .before .if1 .left)) refl _ _ (c .chained .ensures .0) (c .chained .ensures .1)
 
 chain-returns-2 : (t : ℕ) → chain-lts.Need-returns-2 (chain-calls t) (chain-at t) chain.Post chain-Inv-loop chain-μ-loop
 chain-returns-2 t c =
     let l = c .before in
     let p = l .before .before .before .pre in
-    run-end series _ _ _ _ _ _ (p .1 .1) _ _ _ _ (l .loop .inv) (omega (arith, c .loop-test .left))
+    run-end series _ _ _ _ _ _ (p .1 .1) _ _ _ _ _ (l .loop .inv) (omega (arith, c .loop-test .left))
 
 -- the node that was read
 chain-child-node : (t : ℕ) (n : chain-child-lts.After-node-at (chain-child-calls t) (chain-child-at t) chain-child.Post)
@@ -215,7 +218,7 @@ chain-child-returns : (t : ℕ) → chain-child-lts.Need-returns (chain-child-ca
 chain-child-returns t c =
     let n = c .before .before .before .before .before .before in
     let p = n .before .before .before .pre .1 in
-    child-leaf series _ _ _ _ _ (p .few) _ (chain-child-node t n) _ _ _ _ _ _ _ _ p (c .before .before .before .before .if1 .taken) (c .leaf .ensures)
+    child-leaf series _ _ _ _ (p .few) _ (chain-child-node t n) _ _ _ _ _ _ _ _ p (c .before .before .before .before .if1 .taken) (c .leaf .ensures)
 
 chain-child-refused-requires : (t : ℕ) → chain-child-lts.Need-refused-requires (chain-child-calls t) (chain-child-at t) chain-child.Post
 chain-child-refused-requires t c κs = search needs
@@ -225,7 +228,7 @@ unfolding kindBit
 chain-child-returns-2 t c =
     let n = c .before .before .before .before .before in
     let p = n .before .before .before .pre .1 in
-    child-none series _ _ _ _ _ (p .few) _ (chain-child-node t n) _ _ _ _ _ _ _ _ _
+    child-none series _ _ _ _ (p .few) _ (chain-child-node t n) _ _ _ _ _ _ _ _ _
     (c .before .before .before .if1 .left) (c .before .if2 .taken) (c .refused .ensures)
 
 chain-child-add-if3 : (t : ℕ) → chain-child-lts.Need-add-if3 (chain-child-calls t) (chain-child-at t) chain-child.Post
@@ -241,7 +244,7 @@ unfolding kindBit
 chain-child-returns-3 t c =
     let n = c .before .before .before .before .before .before in
     let p = n .before .before .before .pre .1 in
-    child-full series _ _ _ _ _ (p .few) _ (chain-child-node t n) _ _ _ _ _ _ _ _ _
+    child-full series _ _ _ _ (p .few) _ (chain-child-node t n) _ _ _ _ _ _ _ _ _
     (c .before .before .if2 .left) (c .before .if3 .taken) (c .refused2 .ensures)
 
 chain-child-add-side : (t : ℕ) → chain-child-lts.Need-add-side (chain-child-calls t) (chain-child-at t) chain-child.Post
@@ -262,16 +265,16 @@ unfolding kindBit
 chain-child-returns-4 t c =
     let n = c .before .before .before .before .before .before .before .before .before .before in
     let p = n .before .before .before .pre .1 in
-    child-group series _ _ _ _ _ (p .few) _ (chain-child-node t n) _ _ _ _ _ _ _ _ _
-    (c .before .before .before .before .before .before .if2 .left) _ (c .side .ensures) (above-all _)
+    child-group series _ _ _ _ (p .few) _ (chain-child-node t n) _ _ _ _ _ _ _ _ _
+    (c .before .before .before .before .before .before .if2 .left) (c .side .ensures)
 
 abbrev side-Inv-loop : side-lts.InvT-loop
-side-Inv-loop bytes count more done groups seen₀ forward₀ next₀ hours₀ part₀ floor₀ left₀ seen forward next hours part floor left =
-    Run parallel bytes count more done groups (record { seen = seen₀; forward = forward₀; next = next₀; hours = hours₀ }) left floor
+side-Inv-loop bytes count more done groups seen₀ forward₀ next₀ hours₀ part₀ size₀ least₀ left₀ seen forward next hours part size least left =
+    Run parallel bytes count more done groups (record { seen = seen₀; forward = forward₀; next = next₀; hours = hours₀ }) left size least
     (record { seen = seen; forward = forward; next = next; hours = hours }) part
 
 abbrev side-μ-loop : side-lts.MeasureT-loop
-side-μ-loop bytes count more done groups seen₀ forward₀ next₀ hours₀ part₀ floor₀ left₀ seen forward next hours part floor left = left
+side-μ-loop bytes count more done groups seen₀ forward₀ next₀ hours₀ part₀ size₀ least₀ left₀ seen forward next hours part size least left = left
 
 side-unread-requires : (t : ℕ) → side-lts.Need-unread-requires (side-calls t) (side-at t) side.Post side-Inv-loop side-μ-loop
 side-unread-requires t c κs = tt
@@ -292,49 +295,61 @@ side-returns t c =
     let k = c .before .before in
     let i = k .before .before .before .before .before in
     let p = i .before .before .before .before .pre in
-    run-none parallel _ _ _ _ _ _ (p .1 .1) _ _ _ _ (i .before .loop .inv) _ _ (k .side-child .ensures) (i .loop-test .taken) (not-true _ (c .if1 .taken))
+    run-none parallel _ _ _ _ _ _ (p .1 .1) _ _ _ _ _ (i .before .loop .inv) _ _ (k .side-child .ensures) (i .loop-test .taken) (not-true _ (c .if1 .taken))
 
-side-add-floor : (t : ℕ) → side-lts.Need-add-floor (side-calls t) (side-at t) side.Post side-Inv-loop side-μ-loop
-side-add-floor t c =
-    let k = c .before .before .before in
-    let i = k .before .before .before .before .before in
-    let p = i .before .before .before .before .pre in
-    omega (arith, child-bounded parallel (p .1 .1 .few) (k .side-child .ensures) (not-false _ (c .before .if1 .left)) .smallest)
-
-side-sided-requires : (t : ℕ) → side-lts.Need-sided-requires (side-calls t) (side-at t) side.Post side-Inv-loop side-μ-loop
-side-sided-requires t c κs =
+side-sub-jobs : (t : ℕ) → side-lts.Need-sub-jobs (side-calls t) (side-at t) side.Post side-Inv-loop side-μ-loop
+side-sub-jobs t c =
     let k = c .before .before .before .before in
     let i = k .before .before .before .before .before in
     let p = i .before .before .before .before .pre in
-    child-bounded parallel (p .1 .1 .few) (k .side-child .ensures) (not-false _ (c .before .before .if1 .left)) .lasts
+    omega (arith, child-bounded parallel (p .1 .1 .few) (k .side-child .ensures) (not-false _ (c .before .before .if1 .left)) .onward)
+
+side-outranks-requires : (t : ℕ) → side-lts.Need-outranks-requires (side-calls t) (side-at t) side.Post side-Inv-loop side-μ-loop
+side-outranks-requires t c κs = tt
+
+side-refused-requires : (t : ℕ) → side-lts.Need-refused-requires (side-calls t) (side-at t) side.Post side-Inv-loop side-μ-loop
+side-refused-requires t c κs = tt
+
+side-returns-2 : (t : ℕ) → side-lts.Need-returns-2 (side-calls t) (side-at t) side.Post side-Inv-loop side-μ-loop
+side-returns-2 t c =
+    let k = c .before .before .before .before .before .before .before in
+    let i = k .before .before .before .before .before in
+    let p = i .before .before .before .before .pre in
+    run-behind parallel _ _ _ _ _ _ (p .1 .1) _ _ _ _ _ (i .before .loop .inv) _ _ (k .side-child .ensures) (i .loop-test .taken)
+    (not-false _ (c .before .before .before .before .before .if1 .left))
+    (λ told. clash told (sym (c .before .before .outranks .ensures) ∙ not-true _ (c .before .if2 .taken))) _ (refused-not (c .refused .ensures))
+
+side-sided-requires : (t : ℕ) → side-lts.Need-sided-requires (side-calls t) (side-at t) side.Post side-Inv-loop side-μ-loop
+side-sided-requires t c κs =
+    let k = c .before .before .before .before .before .before .before in
+    let i = k .before .before .before .before .before in
+    let p = i .before .before .before .before .pre in
+    child-bounded parallel (p .1 .1 .few) (k .side-child .ensures) (not-false _ (c .before .before .before .before .before .if1 .left)) .lasts
 
 side-sub-left : (t : ℕ) → side-lts.Need-sub-left (side-calls t) (side-at t) side.Post side-Inv-loop side-μ-loop
 side-sub-left t c =
-    let k = c .before .before .before .before .before in
-    let i = k .before .before .before .before .before in
-    let p = i .before .before .before .before .pre in
+    let i = c .before .before .before .before .before .before .before .before .before .before .before .before .before in
     omega (arith, i .loop-test .taken)
 
 side-loop-less : (t : ℕ) → side-lts.Need-loop-less (side-calls t) (side-at t) side.Post side-Inv-loop side-μ-loop
 side-loop-less t c =
-    let k = c .before .before .before .before .before in
-    let i = k .before .before .before .before .before in
-    let p = i .before .before .before .before .pre in
+    let i = c .before .before .before .before .before .before .before .before .before .before .before .before .before in
     omega (arith, i .loop-test .taken)
 
 side-loop-again : (t : ℕ) → side-lts.Need-loop-again (side-calls t) (side-at t) side.Post side-Inv-loop side-μ-loop
 side-loop-again t c =
-    let k = c .before .before .before .before .before in
+    let k = c .before .before .before .before .before .before .before .before in
     let i = k .before .before .before .before .before in
     let p = i .before .before .before .before .pre in
-    run-more parallel _ _ _ _ _ _ (p .1 .1) _ _ _ _ (i .before .loop .inv) _ _ (k .side-child .ensures) (i .loop-test .taken)
-    (not-false _ (c .before .before .before .if1 .left)) _ _ (c .sided .ensures .0) (c .sided .ensures .1)
+    run-more parallel _ _ _ _ _ _ (p .1 .1) _ _ _ _ _ (i .before .loop .inv) _ _ (k .side-child .ensures) (i .loop-test .taken)
+    (not-false _ (c .before .before .before .before .before .before .if1 .left))
+    (sym (c .before .before .before .outranks .ensures) ∙ not-false _ (c .before .before .if2 .left)) _ _ (c .sided .ensures .0) (c .sided .ensures .1)
 
-side-returns-2 : (t : ℕ) → side-lts.Need-returns-2 (side-calls t) (side-at t) side.Post side-Inv-loop side-μ-loop
-side-returns-2 t c =
+side-returns-3 : (t : ℕ) → side-lts.Need-returns-3 (side-calls t) (side-at t) side.Post side-Inv-loop side-μ-loop
+side-returns-3 t c =
     let l = c .before in
     let p = l .before .before .before .pre in
-    run-end parallel _ _ _ _ _ _ (p .1 .1) _ _ _ _ (l .loop .inv) (omega (arith, c .loop-test .left))
+    run-end parallel _ _ _ _ _ _ (p .1 .1) _ _ _ _ _ (l .loop .inv) (omega (arith, c .loop-test .left))
 
 -- the node that was read
 side-child-node : (t : ℕ) (n : side-child-lts.After-node-at (side-child-calls t) (side-child-at t) side-child.Post)
@@ -356,7 +371,7 @@ side-child-returns : (t : ℕ) → side-child-lts.Need-returns (side-child-calls
 side-child-returns t c =
     let n = c .before .before .before .before .before .before in
     let p = n .before .before .before .pre .1 in
-    child-leaf parallel _ _ _ _ _ (p .few) _ (side-child-node t n) _ _ _ _ _ _ _ _ p (c .before .before .before .before .if1 .taken) (c .leaf .ensures)
+    child-leaf parallel _ _ _ _ (p .few) _ (side-child-node t n) _ _ _ _ _ _ _ _ p (c .before .before .before .before .if1 .taken) (c .leaf .ensures)
 
 side-child-refused-requires : (t : ℕ) → side-child-lts.Need-refused-requires (side-child-calls t) (side-child-at t) side-child.Post
 side-child-refused-requires t c κs = search needs
@@ -366,7 +381,7 @@ unfolding kindBit
 side-child-returns-2 t c =
     let n = c .before .before .before .before .before in
     let p = n .before .before .before .pre .1 in
-    child-none parallel _ _ _ _ _ (p .few) _ (side-child-node t n) _ _ _ _ _ _ _ _ _
+    child-none parallel _ _ _ _ (p .few) _ (side-child-node t n) _ _ _ _ _ _ _ _ _
     (c .before .before .before .if1 .left) (c .before .if2 .taken) (c .refused .ensures)
 
 side-child-add-if3 : (t : ℕ) → side-child-lts.Need-add-if3 (side-child-calls t) (side-child-at t) side-child.Post
@@ -382,7 +397,7 @@ unfolding kindBit
 side-child-returns-3 t c =
     let n = c .before .before .before .before .before .before in
     let p = n .before .before .before .pre .1 in
-    child-full parallel _ _ _ _ _ (p .few) _ (side-child-node t n) _ _ _ _ _ _ _ _ _
+    child-full parallel _ _ _ _ (p .few) _ (side-child-node t n) _ _ _ _ _ _ _ _ _
     (c .before .before .if2 .left) (c .before .if3 .taken) (c .refused2 .ensures)
 
 side-child-add-chain : (t : ℕ) → side-child-lts.Need-add-chain (side-child-calls t) (side-child-at t) side-child.Post
@@ -398,16 +413,13 @@ side-child-chain-requires t c κs =
     call-children series _ _ (side-child-node t n) (c .before .before .before .before .before .if2 .left) p
     (omega (arith, c .before .before .before .before .if3 .left)) (n .before .before .before .pre .0)
 
-side-child-above-requires : (t : ℕ) → side-child-lts.Need-above-requires (side-child-calls t) (side-child-at t) side-child.Post
-side-child-above-requires t c κs = search needs
-
 side-child-returns-4 : (t : ℕ) → side-child-lts.Need-returns-4 (side-child-calls t) (side-child-at t) side-child.Post
 unfolding kindBit
 side-child-returns-4 t c =
-    let n = c .before .before .before .before .before .before .before .before .before .before .before in
+    let n = c .before .before .before .before .before .before .before .before .before .before in
     let p = n .before .before .before .pre .1 in
-    child-group parallel _ _ _ _ _ (p .few) _ (side-child-node t n) _ _ _ _ _ _ _ _ _
-    (c .before .before .before .before .before .before .before .if2 .left) _ (c .before .chain .ensures) (c .above .ensures)
+    child-group parallel _ _ _ _ (p .few) _ (side-child-node t n) _ _ _ _ _ _ _ _ _
+    (c .before .before .before .before .before .before .if2 .left) (c .chain .ensures)
 
 pub +chain+chain-child+side+side-child-spec : {M : Type 1} → statement M
 +chain+chain-child+side+side-child-spec =
@@ -451,12 +463,15 @@ pub +chain+chain-child+side+side-child-spec : {M : Type 1} → statement M
     (side-loop-holds t)
     (side-side-child-requires t)
     (side-returns t)
-    (side-add-floor t)
+    (side-sub-jobs t)
+    (side-outranks-requires t)
+    (side-refused-requires t)
+    (side-returns-2 t)
     (side-sided-requires t)
     (side-sub-left t)
     (side-loop-less t)
     (side-loop-again t)
-    (side-returns-2 t))
+    (side-returns-3 t))
     λ t. side-child-lts.spec (side-child-calls t)
     (side-child-at t)
     side-child.Post
@@ -471,5 +486,4 @@ pub +chain+chain-child+side+side-child-spec : {M : Type 1} → statement M
     (side-child-returns-3 t)
     (side-child-add-chain t)
     (side-child-chain-requires t)
-    (side-child-above-requires t)
     (side-child-returns-4 t)

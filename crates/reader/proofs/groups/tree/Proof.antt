@@ -4,7 +4,6 @@ use native.Mathlib.Omega.{arith}
 use borrow.Author.Needs.{needs}
 use Rattle.poset.specs.Tree.{series, parallel}
 use Rattle.record.specs.Layout.{kindBit}
-use Rattle.reader.proofs.Refusals.{above-all}
 use Rattle.reader.proofs.Child.{child-group, tree-child, tree-chain, tree-full}
 use Rattle.reader.proofs.Calls.{call-children}
 use Rattle.reader.proofs.groups.tree.Statement.{statement}
@@ -20,7 +19,7 @@ returns : tie.Need-returns
 returns c =
     let n = c .before .before .before .before .before .before .before in
     let p = n .before .before .pre in
-    tree-child _ _ _ _ _ (p .few) _ (n .node-at .ensures) _ _ _ (c .before .before .before .before .before .if1 .taken) (c .chain .ensures)
+    tree-child _ _ _ _ (p .few) _ (n .node-at .ensures) _ _ _ (c .before .before .before .before .before .if1 .taken) (c .chain .ensures)
 
 refused-requires : tie.Need-refused-requires
 refused-requires c κs = search needs
@@ -29,7 +28,7 @@ returns-2 : tie.Need-returns-2
 returns-2 c =
     let n = c .before .before .before .before in
     let p = n .before .before .pre in
-    tree-full _ _ _ _ _ (p .few) _ (n .node-at .ensures) _ _ _ (c .before .before .if1 .left) (omega (arith, c .before .if2 .taken)) (c .refused .ensures)
+    tree-full _ _ _ _ (p .few) _ (n .node-at .ensures) _ _ _ (c .before .before .if1 .left) (omega (arith, c .before .if2 .taken)) (c .refused .ensures)
 
 chain-requires-2 : tie.Need-chain-requires-2
 unfolding kindBit
@@ -45,8 +44,8 @@ returns-3 c =
     let n = c .before .before .before .before .before .before .before .before in
     let p = n .before .before .pre in
     let kind = c .before .before .before .before .before .before .if1 .left in
-    tree-chain _ _ _ _ _ (p .few) _ (n .node-at .ensures) _ _ _ kind
-    (child-group parallel _ _ _ _ _ (p .few) _ (n .node-at .ensures) _ _ _ _ _ _ _ _ _ kind _ (c .chain2 .ensures) (above-all _))
+    tree-chain _ _ _ _ (p .few) _ (n .node-at .ensures) _ _ _ kind
+    (child-group parallel _ _ _ _ (p .few) _ (n .node-at .ensures) _ _ _ _ _ _ _ _ _ kind (c .chain2 .ensures))
 
 pub tree-spec : {M : Type 1} → statement M
 tree-spec =

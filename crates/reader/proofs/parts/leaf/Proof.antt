@@ -11,31 +11,25 @@ refused-requires : tie.Need-refused-requires
 refused-requires c κs = search needs
 
 returns : tie.Need-returns
-returns c = refused-leaf (c .refused .ensures) (λ inside above unseen room. omega (arith, c .before .if1 .taken))
+returns c = refused-leaf (c .refused .ensures) (λ inside unseen room. omega (arith, c .before .if1 .taken))
 
 refused-requires-2 : tie.Need-refused-requires-2
 refused-requires-2 c κs = search needs
 
 returns-2 : tie.Need-returns-2
-returns-2 c = refused-leaf (c .refused2 .ensures) (λ inside above unseen room. omega (arith, c .before .if2 .taken))
+returns-2 c = refused-leaf (c .refused2 .ensures) (λ inside unseen room. omega (arith, c .before .if2 .taken))
+
+cast-mark : tie.Need-cast-mark
+cast-mark c = search needs
+
+element-copy-out-if3 : tie.Need-element-copy-out-if3
+element-copy-out-if3 c = search needs
 
 refused-requires-3 : tie.Need-refused-requires-3
 refused-requires-3 c κs = search needs
 
 returns-3 : tie.Need-returns-3
-returns-3 c = refused-leaf (c .refused3 .ensures) (λ inside above unseen room. omega (arith, c .before .if3 .taken))
-
-cast-mark : tie.Need-cast-mark
-cast-mark c = search needs
-
-element-copy-out-if4 : tie.Need-element-copy-out-if4
-element-copy-out-if4 c = search needs
-
-refused-requires-4 : tie.Need-refused-requires-4
-refused-requires-4 c κs = search needs
-
-returns-4 : tie.Need-returns-4
-returns-4 c = refused-leaf (c .refused4 .ensures) (λ inside above unseen room. c .before .if4 .taken unseen)
+returns-3 c = refused-leaf (c .refused3 .ensures) (λ inside unseen room. c .before .if3 .taken unseen)
 
 element-write-seen : tie.Need-element-write-seen
 element-write-seen c = search needs
@@ -49,15 +43,15 @@ mul-hours c = search needs
 element-write-hours : tie.Need-element-write-hours
 element-write-hours c = search needs
 
-add-t15 : tie.Need-add-t15
-add-t15 c = search needs
+add-t14 : tie.Need-add-t14
+add-t14 c = search needs
 
-returns-5 : tie.Need-returns-5
-returns-5 c =
+returns-4 : tie.Need-returns-4
+returns-4 c =
     record {
       some = λ _.
           let e = c .before .before in
-          (e .before .before .if1 .left, e .before .if2 .left, c .if4 .left, e .if3 .left, refl, refl, refl, refl);
+          (e .before .if1 .left, c .if3 .left, e .if2 .left, refl, refl, refl, refl);
       none = λ e. absurd (clash refl e);
     }
 
@@ -69,15 +63,13 @@ leaf-spec =
     returns
     refused-requires-2
     returns-2
+    cast-mark
+    element-copy-out-if3
     refused-requires-3
     returns-3
-    cast-mark
-    element-copy-out-if4
-    refused-requires-4
-    returns-4
     element-write-seen
     element-write-forward
     mul-hours
     element-write-hours
-    add-t15
-    returns-5)
+    add-t14
+    returns-4)

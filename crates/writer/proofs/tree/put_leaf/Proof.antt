@@ -5,7 +5,7 @@ use native.Mathlib.Nat.{mod-eq-of-lt}
 use native.Mathlib.Omega.{arith}
 use lib.ListN.{getD, set}
 use borrow.Author.Needs.{needs}
-use Rattle.writer.specs.Stack.{lead}
+use Rattle.writer.specs.Parts.{lead}
 use Rattle.writer.proofs.Leads.{some-any, lead-least}
 use Rattle.writer.proofs.tree.put_leaf.Statement.{statement}
 use Rattle.writer.proofs.tree.put_leaf.Tie as tie
