@@ -33,6 +33,14 @@ layout-filled n hours t = bytes-filled (fields n hours t) (below-append (bits-be
 pub layout-below : (n : ℕ) (hours : List ℕ) (t : Tree) → AllBelow 256 (layout n hours t)
 layout-below n hours t = layout-filled n hours t .small
 
+-- the count that bytes begin with
+pub count-read
+    : (n : ℕ) (bs : List ℕ) {bytes : List ℕ} → 0 < n → n ≤ 128 → (f : Filled (bits 7 (n - 1) ++ bs) bytes)
+    → readBits 7 (bitsOf bytes) ≡ some (n - 1, bs ++ replicate (f .fill) 0)
+count-read n bs p l f =
+    let rest : List ℕ = bs ++ replicate (f .fill) 0 in
+    ap (readBits 7) (f .same ∙ append-assoc (bits 7 (n - 1)) bs (replicate (f .fill) 0)) ∙ read-back 7 (n - 1) rest (omega arith)
+
 -- the bytes of a record
 
 pub layout-length
@@ -112,7 +120,7 @@ decode-any n hours t p l s each low =
     let enough : groups t < length (treeBits hours t ++ zeros) =
     omega (arith, length-append (treeBits hours t) zeros, length-treeBits hours t, groups-lt t) in
     decode-steps (layout n hours t) (treeBits hours t ++ zeros) zeros (n - 1) t (leafHours hours (leaves t))
-    (ap (readBits 7) (f .same ∙ append-assoc (bits 7 (n - 1)) (treeBits hours t) zeros) ∙ read-back 7 (n - 1) (treeBits hours t ++ zeros) (omega arith))
+    (count-read n (treeBits hours t) p l f)
     (read-tree hours low t (length (treeBits hours t ++ zeros)) (spans-small n t l s) enough zeros)
     ∙ ap₂ onlyIf
     (ap₂ (λ (a b : Bool). a && (canonical t && b)) (fills-zeros (f .fill) (f .few)) (rw one-less (spanning-spans n t .1 s)) ∙ and-true (canonical t))

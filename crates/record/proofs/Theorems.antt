@@ -14,8 +14,10 @@ use Rattle.record.specs.Decode.{decode}
 use Rattle.record.proofs.Records
 use Rattle.record.proofs.Former
 use Rattle.record.proofs.Former.{formerlyCanonical, WasRecord}
+use Rattle.record.proofs.Older
+use Rattle.record.proofs.Older.{olderLayout, WasOlder}
 use Rattle.record.proofs.Examples
-use Rattle.record.proofs.Examples.{Example, examples, largest-first, smallest-first}
+use Rattle.record.proofs.Examples.{Example, examples, largest-first, smallest-first, older}
 
 -- the decoder gives a canonical tree on 1 to 128 jobs and their hours back from the layout
 pub decode-layout
@@ -48,6 +50,10 @@ decode-any = Records.decode-any
 pub former-decode : (bytes : List ℕ) (n : ℕ) (t : Tree) (hours : List ℕ) → WasRecord bytes n t hours → decode bytes ≡ onlyIf (canonical t) (n, t, hours)
 former-decode = Former.former-decode
 
+-- no record of before leaves had hours is one, in whatever order its branches stood
+pub older-none : (bytes : List ℕ) (n : ℕ) (t : Tree) → WasOlder bytes n t → (m : ℕ) (s : Tree) (hours : List ℕ) → IsRecord bytes m s hours → ⊥
+older-none = Older.older-none
+
 -- no bytes are the record of two trees, at two job counts, or with two lists of hours
 pub layout-injective
     : (bytes : List ℕ) (n m : ℕ) (t s : Tree) (hours others : List ℕ) → IsRecord bytes n t hours → IsRecord bytes m s others
@@ -68,7 +74,7 @@ layout-size = Records.layout-size
 pub layout-below : (n : ℕ) (hours : List ℕ) (t : Tree) → AllBelow 256 (layout n hours t)
 layout-below = Records.layout-below
 
--- records of document 01 with hours of 0 at each leaf, one with other hours, and bytes that are none
+-- records of document 01 with hours of 0 at each leaf, one with other hours, branches of equally many jobs, and bytes that are none
 pub decoded : map (λ (e : Example). decode (e .0)) examples ≡ map (λ (e : Example). e .1) examples
 decoded = Examples.decoded
 
@@ -81,3 +87,7 @@ told-apart = Examples.told-apart
 pub was-record
     : WasRecord (0x05 ∷ 0x81 ∷ 0x00 ∷ 0x00 ∷ 0x08 ∷ 0x08 ∷ 0x08 ∷ 0x00 ∷ 0x01 ∷ 0x00 ∷ 0x00 ∷ []) 3 smallest-first (0 ∷ 0 ∷ 0 ∷ [])
 was-record = Examples.was-record
+
+-- the records of document 01 as it prints them, without hours
+pub laid-out-before : map (λ (e : ℕ × Tree × List ℕ). olderLayout (e .0) (e .1)) older ≡ map (λ (e : ℕ × Tree × List ℕ). e .2) older
+laid-out-before = Examples.laid-out-before
