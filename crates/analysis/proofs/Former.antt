@@ -1,24 +1,27 @@
 -- Records in the former plain form, read: refused exactly where their tree is not in this one, and exactly where what its order yields is other bytes.
-use Prim.Native.Nat.{ℕ, _%_, _≤_}
+-- Records without hours, read: refused.
+use Prim.Native.Nat.{ℕ, _^_, _%_, _≤_, _<_}
 use mathlib.Core.Path.{_≡_, sym, ap, subst, _∙_}
 use mathlib.Core.List.{List}
 use mathlib.Core.Bool.{true, false}
 use mathlib.Core.Option.{none}
 use mathlib.Core.Logic.{_↔_, _≢_, ⊎-elim}
+use native.Mathlib.Omega.{arith}
 use lib.ListN.{length}
 use Rattle.poset.specs.Order.{Arc, before}
-use Rattle.poset.specs.Tree.{Tree, Means, canonical}
+use Rattle.poset.specs.Tree.{Tree, Spans, Means, canonical}
 use Rattle.poset.proofs.Laws.{decided, only-if-none}
 use Rattle.relation.specs.Arcs.{pairs}
 use Rattle.record.specs.Bits.{AllBelow}
-use Rattle.record.specs.Layout.{layout, IsRecord}
+use Rattle.record.specs.Layout.{hoursBits, layout, IsRecord}
 use Rattle.record.specs.Decode.{decode}
 use Rattle.record.proofs.Former.{WasRecord}
-use Rattle.record.proofs.Theorems.{decode-none, former-decode, layout-below}
+use Rattle.record.proofs.Older.{WasOlder, older-small}
+use Rattle.record.proofs.Theorems.{decode-none, former-decode, layout-below, older-none}
 use Rattle.sheet.specs.Text.{LineForm}
 use Rattle.analysis.specs.Bounds.{longestSheet}
 use Rattle.analysis.specs.Outcome.{Rooms, roomy, Outcome, sheetOutcome, pairOutcome, recordOutcome}
-use Rattle.analysis.specs.Claims.{Yield}
+use Rattle.analysis.specs.Claims.{Yield, Moderate}
 use Rattle.analysis.proofs.Fates.{fate}
 use Rattle.analysis.proofs.Accepted.{fate-yield}
 use Rattle.analysis.proofs.Inputs.{sheet-arcs, pair-arcs, record-fate}
@@ -56,14 +59,31 @@ module _ (room : ℕ) (bytes : List ℕ) (n : ℕ) (t : Tree) (hours : List ℕ)
           (λ (p : canonical t ≡ false). p)
           (decided (canonical t))
 
--- its order and hours have a sheet that is accepted
+-- a tree's order with hours has a sheet that is accepted
+again
+    : (n : ℕ) (t : Tree) (hours : List ℕ) → 0 < n → n ≤ 128 → Spans n t → length hours ≡ n → AllBelow (2 ^ hoursBits) hours
+    → (s : List ℕ) × (arcs : List Arc) × LineForm s n hours arcs × (length s ≤ longestSheet) × Means n t (before n arcs)
+    × (sheetOutcome roomy s .verdict .number ≡ 0)
+again n t hours least most spans each small =
+    let (s, form, short, zero) = sheet-of n t hours least most spans each small in
+    (s, arcs n t hours least most spans each small, form, short, means n t hours least most spans each small, zero)
+
 pub former-again
     : (bytes : List ℕ) (n : ℕ) (t : Tree) (hours : List ℕ) → WasRecord bytes n t hours
     → (s : List ℕ) × (arcs : List Arc) × LineForm s n hours arcs × (length s ≤ longestSheet) × Means n t (before n arcs)
     × (sheetOutcome roomy s .verdict .number ≡ 0)
-former-again bytes n t hours was =
-    let (s, form, short, zero) = sheet-of n t hours (was .least) (was .most) (was .spans) (was .each) (was .small) in
-    (s, arcs n t hours _ _ _ _ _, form, short, means n t hours (was .least) (was .most) (was .spans) (was .each) (was .small), zero)
+former-again bytes n t hours was = again n t hours (was .least) (was .most) (was .spans) (was .each) (was .small)
+
+pub older-again
+    : (bytes : List ℕ) (n : ℕ) (t : Tree) → WasOlder bytes n t → (hours : List ℕ) → length hours ≡ n → Moderate hours
+    → (s : List ℕ) × (arcs : List Arc) × LineForm s n hours arcs × (length s ≤ longestSheet) × Means n t (before n arcs)
+    × (sheetOutcome roomy s .verdict .number ≡ 0)
+older-again bytes n t was hours each moderate =
+    again n t hours (was .least) (was .most) (was .spans) each (λ h m. omega (arith, moderate h m))
+
+pub older-refused : (room : ℕ) (bytes : List ℕ) (n : ℕ) (t : Tree) → WasOlder bytes n t → recordOutcome room bytes .verdict .number ≡ 11
+older-refused room bytes n t was =
+    fate-none room bytes (record-fate room bytes (older-small bytes n t was)) .1 (older-none bytes n t was)
 
 pub former-sheet
     : (rooms : Rooms) (s : List ℕ) (n : ℕ) (hours : List ℕ) (arcs : List Arc) → length s ≤ longestSheet → LineForm s n hours arcs
