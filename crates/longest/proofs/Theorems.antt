@@ -40,7 +40,7 @@ pub tree-fewest
     : (n : ℕ) (r : Rel) (t : Tree) → Means n t r → (hours : ℕ → ℕ) → IsFewest n r hours (earliestStart hours t) (longest hours t .0)
 tree-fewest = Scheduling.tree-fewest
 
--- In a unit of which an hour has m these are the same starts and the same total: no schedule gains by starting a job within an hour.
+-- In a unit of which an hour has m these are the same starts and the same total, so no schedule gains by starting a job within an hour.
 pub finer-fewest
     : (n : ℕ) (r : Rel) (t : Tree) → Means n t r → (hours : ℕ → ℕ) (m : ℕ)
     → IsFewest n r (λ u. m * hours u) (λ u. m * earliestStart hours t u) (m * longest hours t .0)
@@ -122,7 +122,8 @@ pub pairs-longest
     (runOutcome (pairOutcome rooms n hours list .bytes) .total) (runOutcome (pairOutcome rooms n hours list .bytes) .jobs)
 pairs-longest rooms n hours list zero = let y = yield-pairs rooms n hours list zero in (Sheets.yield-told y, Sheets.yield-longest y)
 
--- and its total is the fewest hours for that order, with the earliest starts by the tree that the record spells
+-- The total of an accepted sheet's record is the fewest hours for the sheet's own order and hours; the earliest starts are those of the tree that the
+-- record spells. The same of a pair list.
 
 pub sheet-fewest
     : (rooms : Rooms) (s : List ℕ) → sheetOutcome rooms s .verdict .number ≡ 0
@@ -143,6 +144,6 @@ pairs-fewest rooms n hours list zero = let y = yield-pairs rooms n hours list ze
 pub shown-runs : map (λ (e : Example). runOutcome (e .0)) examples ≡ map (λ (e : Example). e .1) examples
 shown-runs = Examples.shown-runs
 
--- the earliest starts in small trees
+-- the earliest starts in small trees, one of them that of the hull in docs/BERTH.md
 pub shown-starts : map starts plans ≡ map (λ (p : Plan). p .2) plans
 shown-starts = Examples.shown-starts

@@ -7,7 +7,8 @@ use Rattle.poset.specs.Order.{Rel}
 use Rattle.poset.specs.Tree.{Kind, series, parallel, Tree, leaf, node, Forest, last, more, leaves}
 use Rattle.longest.specs.Longest.{longest}
 
--- a job ends its hours after its start; one that is before another ends by the other's start, and all end by the total
+-- a job takes its hours from its start on; one that is before another ends by the other's start, and all end by the total. How many go on at once
+-- is left open: there are hands enough.
 pub record Schedule (n : ℕ) (r : Rel) (hours start : ℕ → ℕ) (total : ℕ) : Type 0 where
   pub in-turn : (u v : ℕ) → u < n → v < n → r u v ≡ true → start u + hours u ≤ start v
   pub in-time : (u : ℕ) → u < n → start u + hours u ≤ total
@@ -18,12 +19,12 @@ pub record IsFewest (n : ℕ) (r : Rel) (hours start : ℕ → ℕ) (total : ℕ
   pub least : (other : ℕ → ℕ) (end : ℕ) → Schedule n r hours other end → total ≤ end
   pub earliest : (other : ℕ → ℕ) (end : ℕ) → Schedule n r hours other end → (u : ℕ) → u < n → start u ≤ other u
 
--- how long the others of a group wait for its first child, where that takes `a` hours
+-- how long the other children of a group wait for the first, which takes `a` hours
 unfoldable pub waits : Kind → ℕ → ℕ
 waits series a = a
 waits parallel a = 0
 
--- the earliest start of a job: in a chain after the longest runs of the children ahead of its own
+-- the earliest start of a job: in a chain it waits for the longest runs of the children ahead of its own, in a side group for none
 unfoldable mutual
   pub earliestStart : (ℕ → ℕ) → Tree → ℕ → ℕ
   earliestStart hours (leaf j) u = 0
