@@ -1,4 +1,6 @@
 pub mod Longest
+pub mod Scheduling
+pub mod Finer
 pub mod Measures
 pub mod Entries
 pub mod Folding

@@ -12,6 +12,7 @@ use Rattle.poset.specs.Order.{Rel}
 use Rattle.poset.specs.Tree.{Kind, series, parallel, Tree, leaf, node, Forest, last, more, trees, Means}
 use Rattle.poset.proofs.Laws.{decided, ltb-true}
 use Rattle.poset.proofs.Heaviest.{grown, heaviest, forestHeaviest, Laid, Attained, not-less, attained, laid-distinct, laid-near, not-heavier}
+use Rattle.poset.proofs.Shape.{In, Good}
 use Rattle.poset.proofs.Meaning.{means-fits}
 use Rattle.longest.specs.Chains.{InOrder, empty, next, IsLongest}
 use Rattle.longest.specs.Longest.{WorkRun, joinedRuns, longest, forestLongest, FirstGreatest}
@@ -40,12 +41,16 @@ laid-in-order : (r : Rel) (xs : List ℕ) → Laid series r xs → InOrder r xs
 laid-in-order r [] l = empty
 laid-in-order r (x ∷ xs) l = next (λ v m. l .0 v m .0) (laid-in-order r xs (l .1))
 
+-- the run is of the tree's own jobs
+pub run-attained : (r : Rel) (hours : ℕ → ℕ) (t : Tree) → Good r t → Attained series r hours (In t) (longest hours t)
+run-attained r hours t good = rw (longest-heaviest hours t) (attained series r hours t good)
+
 module _ (n : ℕ) (r : Rel) (t : Tree) (means : Means n t r) (hours : ℕ → ℕ) where
   shown : Attained series r hours (λ u. u < n) (longest hours t)
   shown =
       let fits = means-fits n r t means in
-      let a = attained series r hours t (fits .good) in
-      rw (longest-heaviest hours t) (record { total = a .total; inside = λ u m. fits .holds .inside u (a .inside u m); laid = a .laid })
+      let a = run-attained r hours t (fits .good) in
+      record { total = a .total; inside = λ u m. fits .holds .inside u (a .inside u m); laid = a .laid }
 
   pub longest-is : IsLongest n r hours (longest hours t .0) (longest hours t .1)
   longest-is =

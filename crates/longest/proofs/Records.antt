@@ -14,7 +14,9 @@ use Rattle.analysis.proofs.Asked.{Answered, question, ask-verdict, ask-told}
 use Rattle.longest.specs.Chains.{IsLongest}
 use Rattle.longest.specs.Longest.{longest}
 use Rattle.longest.specs.Outcome.{RunOutcome, runOutcome}
+use Rattle.longest.specs.Schedules.{IsFewest, earliestStart}
 use Rattle.longest.proofs.Longest.{longest-is}
+use Rattle.longest.proofs.Scheduling.{tree-fewest}
 use Rattle.longest.proofs.Measures.{run-small}
 
 -- the question for the longest run
@@ -41,6 +43,9 @@ run-told = ask-told (question runs)
 module _ (bytes : List ℕ) (n : ℕ) (t : Tree) (hours : List ℕ) (spells : IsRecord bytes n t hours) where
   pub run-longest : (r : Rel) → Means n t r → IsLongest n r (hoursOf hours) (runOutcome bytes .total) (runOutcome bytes .jobs)
   run-longest r means = rw (run-told bytes n t hours spells) (longest-is n r t means (hoursOf hours))
+
+  pub run-fewest : (r : Rel) → Means n t r → IsFewest n r (hoursOf hours) (earliestStart (hoursOf hours) t) (runOutcome bytes .total)
+  run-fewest r means = rw (run-told bytes n t hours spells) (tree-fewest n r t means (hoursOf hours))
 
   pub total-small : runOutcome bytes .total ≤ mostHours * n
   total-small =

@@ -10,7 +10,8 @@ use Rattle.analysis.specs.Claims.{Yield}
 use Rattle.analysis.proofs.Asked.{ask-yield}
 use Rattle.longest.specs.Chains.{IsLongest}
 use Rattle.longest.specs.Outcome.{runOutcome}
-use Rattle.longest.proofs.Records.{runs, run-longest}
+use Rattle.longest.specs.Schedules.{IsFewest, earliestStart}
+use Rattle.longest.proofs.Records.{runs, run-longest, run-fewest}
 
 module _ {n : ℕ} {hours : List ℕ} {arcs : List Arc} {o : Outcome} (y : Yield n hours arcs o) where
   pub yield-told : runOutcome (o .bytes) .verdict ≡ answer 0 0 0 0 0
@@ -19,3 +20,6 @@ module _ {n : ℕ} {hours : List ℕ} {arcs : List Arc} {o : Outcome} (y : Yield
 
   pub yield-longest : IsLongest n (before n arcs) (hoursOf hours) (runOutcome (o .bytes) .total) (runOutcome (o .bytes) .jobs)
   yield-longest = run-longest (o .bytes) n (y .tree) hours (y .spells) (before n arcs) (y .means)
+
+  pub yield-fewest : IsFewest n (before n arcs) (hoursOf hours) (earliestStart (hoursOf hours) (y .tree)) (runOutcome (o .bytes) .total)
+  yield-fewest = run-fewest (o .bytes) n (y .tree) hours (y .spells) (before n arcs) (y .means)

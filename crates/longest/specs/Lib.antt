@@ -2,4 +2,5 @@
 pub mod Chains
 pub mod Longest
 pub mod Outcome
+pub mod Schedules
 pub mod Stack
