@@ -39,8 +39,8 @@
 extern "C" {
 #endif
 
-/* The number of the last request that the calls follow, A.8, and so how many there were. Each may change or add calls;
- * docs/landings/ has a note on it. */
+/* The version: how many requests the calls follow, A.1 to A.8. Each may change or add calls; docs/landings/ has a note
+ * on each. */
 #define ORDERSHEET_VERSION 8
 
 #define ORDERSHEET_JOBS 128           /* the most jobs */
@@ -68,7 +68,7 @@ enum ordersheet_refusal {
     ORDERSHEET_REFUSED_RECORD = 11,       /* the bytes offered as a record are not the record of any plain tree */
     ORDERSHEET_REFUSED_HOURS_LENGTH = 12, /* the hours list is not as long as the job count; of a preview alone */
     ORDERSHEET_REFUSED_HOURS = 13,        /* a job's hours are above ORDERSHEET_HOURS; first: the first such job */
-    ORDERSHEET_REFUSED_JOB = 14           /* a job number is not below the record's job count */
+    ORDERSHEET_REFUSED_JOB = 14,          /* a job number is not below the record's job count */
 };
 
 /* The rules of a reason. */
@@ -76,7 +76,7 @@ enum ordersheet_rule {
     ORDERSHEET_RULE_SAME = 1,   /* the same job */
     ORDERSHEET_RULE_BEFORE = 2, /* the first before the second */
     ORDERSHEET_RULE_AFTER = 3,  /* the second before the first */
-    ORDERSHEET_RULE_FREE = 4    /* neither before the other */
+    ORDERSHEET_RULE_FREE = 4,   /* neither before the other */
 };
 
 /* The analysis of a sheet. On acceptance the record, which has the hours, is in the one area and the reduced orders,
