@@ -41,58 +41,37 @@ static ssize_t slurp(const char *name, uint8_t *bytes, size_t room)
     return more < 0 ? -1 : (ssize_t)length;
 }
 
+static const char *plural(uint64_t count) { return count == 1 ? "" : "s"; }
+
+/* The refusal in words, with its places. */
 static void explain(uint64_t answer)
 {
     unsigned first = ordersheet_first(answer);
-    printf("refused %u: ", ordersheet_number(answer));
+    printf("refused %u: %s", ordersheet_number(answer), ordersheet_text(answer));
     switch (ordersheet_number(answer)) {
-    case 1:
-        printf("the sheet is longer than %d bytes\n", ORDERSHEET_SHEET);
+    case ORDERSHEET_REFUSED_LINE_FORM:
+        printf(" (byte %u)", first);
         break;
-    case 2:
-        printf("the sheet breaks the line form at byte %u\n", first);
+    case ORDERSHEET_REFUSED_ORDER_JOB:
+    case ORDERSHEET_REFUSED_ORDER_ITSELF:
+        printf(" (order %u)", first);
         break;
-    case 3:
-        printf("the job count is 0 or above %d\n", ORDERSHEET_JOBS);
+    case ORDERSHEET_REFUSED_CIRCLE:
+    case ORDERSHEET_REFUSED_HOURS:
+        printf(" (job %u)", first);
         break;
-    case 4:
-        printf("there are more than %d orders\n", ORDERSHEET_REDUCED_AREA / 2);
-        break;
-    case 5:
-        printf("order %u names a job not below the count\n", first);
-        break;
-    case 6:
-        printf("order %u puts a job before itself\n", first);
-        break;
-    case 7:
-        printf("there is a circle: job %u comes before itself\n", first);
-        break;
-    case 8:
-        printf("the order is crossed: of jobs %u, %u, %u and %u the first and the second are before the third, "
-               "the second is before the fourth, and the other pairs are free\n",
-               first, ordersheet_second(answer), ordersheet_third(answer), ordersheet_fourth(answer));
-        break;
-    case 9:
-        printf("the record area is shorter than the record\n");
-        break;
-    case 10:
-        printf("the area for reduced orders is shorter than two bytes for each\n");
-        break;
-    case 11:
-        printf("the bytes are not the record of any plain tree\n");
-        break;
-    case 13:
-        printf("the hours of job %u are above %d\n", first, ORDERSHEET_HOURS);
-        break;
-    case 14:
-        printf("a job number is not below the job count\n");
+    case ORDERSHEET_REFUSED_CROSSED:
+        printf(" (the first N: jobs %u %u %u %u)", first, ordersheet_second(answer), ordersheet_third(answer),
+               ordersheet_fourth(answer));
         break;
     }
+    printf("\n");
 }
 
 static void show(unsigned bytes, unsigned orders, unsigned groups)
 {
-    printf("accepted: a record of %u bytes, %u reduced orders, %u groups\nrecord ", bytes, orders, groups);
+    printf("accepted: a record of %u bytes, %u reduced order%s, %u group%s\nrecord ", bytes, orders, plural(orders),
+           groups, plural(groups));
     for (unsigned i = 0; i < bytes; i++)
         printf("%02x", record[i]);
     printf("\n");
@@ -102,21 +81,18 @@ static void show(unsigned bytes, unsigned orders, unsigned groups)
 
 static void show_run(const ordersheet_run *run)
 {
-    printf("longest run: %" PRIu64 " hours, jobs", run->total);
+    printf("longest run: %" PRIu64 " hour%s, jobs", run->total, plural(run->total));
     for (unsigned i = 0; i < run->count; i++)
         printf(" %u", run->jobs[i]);
     printf("\n");
 }
 
-/* The first 7 bits of a record are its job count minus 1. */
-static unsigned job_count(void) { return (record[0] >> 1) + 1; }
-
 static void show_gangs(const ordersheet_gang_plan *plan)
 {
-    unsigned jobs = job_count();
+    unsigned jobs = ordersheet_jobs(record);
     printf("fewest gangs: %" PRIu64 "\n", plan->count);
     for (unsigned gang = 0; gang < plan->count; gang++) {
-        printf("gang %u: %" PRIu32 " hours, jobs", gang, plan->hours[gang]);
+        printf("gang %u: %" PRIu32 " hour%s, jobs", gang, plan->hours[gang], plural(plan->hours[gang]));
         for (unsigned job = 0; job < jobs; job++)
             if (plan->gangs[job] == gang)
                 printf(" %u", job);
@@ -128,21 +104,21 @@ static void show_reason(unsigned first, unsigned second, const ordersheet_ruling
 {
     printf("reason: rule %" PRIu64 ", ", ruling->rule);
     switch (ruling->rule) {
-    case 1:
+    case ORDERSHEET_RULE_SAME:
         printf("job %u and job %u are the same, by the leaf", first, second);
         break;
-    case 2:
+    case ORDERSHEET_RULE_BEFORE:
         printf("job %u is before job %u, by the chain", first, second);
         break;
-    case 3:
+    case ORDERSHEET_RULE_AFTER:
         printf("job %u is before job %u, by the chain", second, first);
         break;
-    case 4:
+    case ORDERSHEET_RULE_FREE:
         printf("job %u and job %u are free, by the side group", first, second);
         break;
     }
     printf(" at position %" PRIu64 " with %" PRIu64 " job%s\n", ruling->position, ruling->jobs,
-           ruling->jobs == 1 ? "" : "s");
+           plural(ruling->jobs));
 }
 
 /* A job number of 16 bits; whether the word is one. */
@@ -169,7 +145,7 @@ int main(int arguments, char **argument)
     /* A buffer of its own, so that the program allocates nothing. */
     setvbuf(stdout, text, _IOFBF, sizeof text);
     uint64_t answer = ordersheet_analyse(sheet, (size_t)length, record, sizeof record, reduced, sizeof reduced);
-    if (ordersheet_number(answer) != 0) {
+    if (ordersheet_number(answer) != ORDERSHEET_ACCEPTED) {
         explain(answer);
         return 1;
     }
@@ -180,26 +156,26 @@ int main(int arguments, char **argument)
         return 3;
     }
     ordersheet_run run = ordersheet_longest_run(record, bytes);
-    if (ordersheet_number(run.answer) != 0) {
+    if (ordersheet_number(run.answer) != ORDERSHEET_ACCEPTED) {
         fprintf(stderr, "the record has no longest run: %" PRIx64 "\n", run.answer);
         return 3;
     }
     ordersheet_gang_plan plan = ordersheet_gangs(record, bytes);
-    if (ordersheet_number(plan.answer) != 0) {
+    if (ordersheet_number(plan.answer) != ORDERSHEET_ACCEPTED) {
         fprintf(stderr, "the record has no gangs: %" PRIx64 "\n", plan.answer);
         return 3;
     }
     if (arguments == 2)
-        second = (uint16_t)(job_count() - 1);
+        second = (uint16_t)(ordersheet_jobs(record) - 1);
     ordersheet_ruling ruling = ordersheet_reason(record, bytes, first, second);
-    if (ordersheet_number(ruling.answer) == 11) {
+    if (ordersheet_number(ruling.answer) == ORDERSHEET_REFUSED_RECORD) {
         fprintf(stderr, "the record has no reason: %" PRIx64 "\n", ruling.answer);
         return 3;
     }
     show(bytes, orders, ordersheet_third(answer));
     show_run(&run);
     show_gangs(&plan);
-    if (ordersheet_number(ruling.answer) != 0) {
+    if (ordersheet_number(ruling.answer) != ORDERSHEET_ACCEPTED) {
         explain(ruling.answer);
         return 1;
     }

@@ -49,45 +49,35 @@ static size_t read_numbers(size_t length)
     return count;
 }
 
-/* 12 is not among them: a sheet in the line form has hours for each job. */
+/* The refusal in words, with its places; so many orders are in the sheet. */
 static void explain(uint64_t answer, size_t orders)
 {
     unsigned first = ordersheet_first(answer);
-    char order[40] = "the new order";
-    if (first < orders)
-        snprintf(order, sizeof order, "order %u of the sheet", first);
-    printf("refused %u: ", ordersheet_number(answer));
+    printf("refused %u: %s", ordersheet_number(answer), ordersheet_text(answer));
     switch (ordersheet_number(answer)) {
-    case 1:
-        printf("the sheet is longer than %d bytes\n", ORDERSHEET_SHEET);
+    case ORDERSHEET_REFUSED_LINE_FORM:
+        printf(" (byte %u)", first);
         break;
-    case 2:
-        printf("the sheet breaks the line form at byte %u\n", first);
+    case ORDERSHEET_REFUSED_ORDER_COUNT:
+        printf(" (%zu in the sheet, and the new one)", orders);
         break;
-    case 3:
-        printf("the job count is 0 or above %d\n", ORDERSHEET_JOBS);
+    case ORDERSHEET_REFUSED_ORDER_JOB:
+    case ORDERSHEET_REFUSED_ORDER_ITSELF:
+        if (first < orders)
+            printf(" (order %u of the sheet)", first);
+        else
+            printf(" (the new order)");
         break;
-    case 4:
-        printf("the sheet has %zu orders, and with the new one there would be more than %d\n", orders,
-               ORDERSHEET_REDUCED_AREA / 2);
+    case ORDERSHEET_REFUSED_CIRCLE:
+    case ORDERSHEET_REFUSED_HOURS:
+        printf(" (job %u)", first);
         break;
-    case 5:
-        printf("%s names a job not below the count\n", order);
-        break;
-    case 6:
-        printf("%s puts a job before itself\n", order);
-        break;
-    case 7:
-        printf("a circle, job %u would be before itself\n", first);
-        break;
-    case 8:
-        printf("crossed, the first N is jobs %u %u %u %u\n", first, ordersheet_second(answer), ordersheet_third(answer),
+    case ORDERSHEET_REFUSED_CROSSED:
+        printf(" (the first N: jobs %u %u %u %u)", first, ordersheet_second(answer), ordersheet_third(answer),
                ordersheet_fourth(answer));
         break;
-    case 13:
-        printf("the hours of job %u are above %d\n", first, ORDERSHEET_HOURS);
-        break;
     }
+    printf("\n");
 }
 
 /* A job number of 16 bits; whether the word is one. */
@@ -114,7 +104,8 @@ int main(int arguments, char **argument)
     /* A buffer of its own, so that the program allocates nothing. */
     setvbuf(stdout, text, _IOFBF, sizeof text);
     uint64_t answer = ordersheet_analyse(sheet, (size_t)length, record, sizeof record, reduced, sizeof reduced);
-    if (ordersheet_number(answer) == 1 || ordersheet_number(answer) == 2) {
+    if (ordersheet_number(answer) == ORDERSHEET_REFUSED_SHEET_LENGTH ||
+        ordersheet_number(answer) == ORDERSHEET_REFUSED_LINE_FORM) {
         explain(answer, 0);
         return 1;
     }
@@ -124,11 +115,12 @@ int main(int arguments, char **argument)
     const uint16_t *hours = numbers + 1, *list = hours + count;
     size_t list_length = total - 1 - count;
     answer = ordersheet_preview(count, list, list_length, hours, count, first, second);
-    if (ordersheet_number(answer) != 0) {
+    if (ordersheet_number(answer) != ORDERSHEET_ACCEPTED) {
         explain(answer, list_length / 2);
         return 1;
     }
-    printf("accepted: a record of %u bytes, %u reduced orders, %u groups\n", ordersheet_first(answer),
-           ordersheet_second(answer), ordersheet_third(answer));
+    unsigned reduced_orders = ordersheet_second(answer), groups = ordersheet_third(answer);
+    printf("accepted: a record of %u bytes, %u reduced order%s, %u group%s\n", ordersheet_first(answer), reduced_orders,
+           reduced_orders == 1 ? "" : "s", groups, groups == 1 ? "" : "s");
     return 0;
 }

@@ -1,4 +1,5 @@
-// The calls from C++: a sheet, its record read back, its longest run, gangs and reasons, in full and cut off, and previews. Exit status 0: each gives what it should.
+// The calls from C++: a sheet, its record read back, its longest run, gangs and reasons, in full and cut off, and previews; names, a text and a count. Exit status 0: each
+// gives what it should.
 
 #include "ordersheet.h"
 
@@ -47,5 +48,9 @@ int main()
     uint64_t no_such = ordersheet_preview(4, list, 4, hours, 4, 1, 4);
     bool foreseen = ordersheet_number(no_such) == 5 && ordersheet_first(no_such) == 2 && ordersheet_preview(4, list, 3, hours, 4, 1, 3) == 2 &&
                     ordersheet_preview(4, list, 4, hours, 3, 1, 3) == 12 && ordersheet_preview(4, nullptr, 0, nullptr, 0, 1, 3) == 12;
-    return accepted && same && orders && found && refused && parted && two_gangs && turned && decided && free && no_reason && seen && crossing && foreseen ? 0 : 1;
+    bool named = ordersheet_number(answer) == ORDERSHEET_ACCEPTED && ordersheet_number(crossed) == ORDERSHEET_REFUSED_CROSSED &&
+                 no_job.answer == ORDERSHEET_REFUSED_JOB && forth.rule == ORDERSHEET_RULE_BEFORE && back.rule == ORDERSHEET_RULE_AFTER &&
+                 one.rule == ORDERSHEET_RULE_SAME && beside.rule == ORDERSHEET_RULE_FREE;
+    bool told = ordersheet_text(crossed)[0] != '\0' && ordersheet_jobs(record) == 2;
+    return accepted && same && orders && found && refused && parted && two_gangs && turned && decided && free && no_reason && seen && crossing && foreseen && named && told ? 0 : 1;
 }

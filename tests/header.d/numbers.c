@@ -1,4 +1,5 @@
-/* Holds the numbers of ordersheet.h, what it says of the areas, and previews, longest runs, gangs and reasons worked by hand, to the library. Prints a line for each that is wrong, then 'N passed, M failed'. */
+/* Holds the numbers of ordersheet.h, their names and texts, what it says of the areas, and previews, longest runs, gangs and reasons worked by hand, to the library.
+ * Prints a line for each that is wrong, then 'N passed, M failed'. */
 
 #define _DEFAULT_SOURCE
 #include <inttypes.h>
@@ -339,6 +340,102 @@ static void no_records(void)
     no_answer("a side group the wrong way round", others[0], 7);
     no_answer("job 0 twice", others[1], 7);
     no_answer("a byte too many", others[2], 8);
+}
+
+/* The header's name is this number, and the library gives it. */
+static void named(const char *name, unsigned value, unsigned number, uint64_t given)
+{
+    char what[100];
+    snprintf(what, sizeof what, "it is %u, expected %u, and the library gives %" PRIu64, value, number, given);
+    check(name, what, value == number && given == value);
+}
+#define NAMED(name, number, answer) named(#name, name, number, ordersheet_number(answer))
+
+/* What the library answers to a text, in areas of these lengths or long enough. */
+static uint64_t answer_in(const char *text, size_t record_room, size_t reduced_room)
+{
+    return analyse((const uint8_t *)text, strlen(text), record, record_room, reduced, reduced_room);
+}
+static uint64_t answer_to(const char *text) { return answer_in(text, ORDERSHEET_RECORD_AREA, ORDERSHEET_REDUCED_AREA); }
+
+static void names(void)
+{
+    static const uint16_t two[] = {0, 1};
+    NAMED(ORDERSHEET_ACCEPTED, 0, answer_to("2\n0\n0\n0 1\n"));
+    NAMED(ORDERSHEET_ACCEPTED, 0, reread(hull, sizeof hull - 1, reduced, ORDERSHEET_REDUCED_AREA));
+    NAMED(ORDERSHEET_ACCEPTED, 0, preview(2, NULL, 0, two, 2, 0, 1));
+    memset(sheet, '1', sizeof sheet);
+    NAMED(ORDERSHEET_REFUSED_SHEET_LENGTH, 1, analyse((const uint8_t *)sheet, ORDERSHEET_SHEET + 1, record, ORDERSHEET_RECORD_AREA, reduced, ORDERSHEET_REDUCED_AREA));
+    NAMED(ORDERSHEET_REFUSED_LINE_FORM, 2, answer_to("2\n0\n0\n0  1\n"));
+    NAMED(ORDERSHEET_REFUSED_LINE_FORM, 2, preview(2, two, 1, two, 2, 0, 1));
+    NAMED(ORDERSHEET_REFUSED_JOB_COUNT, 3, answer_to("0\n"));
+    start(2);
+    for (unsigned i = 0; i <= ORDERSHEET_REDUCED_AREA / 2; i++)
+        order(0, 1);
+    NAMED(ORDERSHEET_REFUSED_ORDER_COUNT, 4, answer_to(sheet));
+    NAMED(ORDERSHEET_REFUSED_ORDER_JOB, 5, answer_to("2\n0\n0\n0 2\n"));
+    NAMED(ORDERSHEET_REFUSED_ORDER_ITSELF, 6, answer_to("2\n0\n0\n1 1\n"));
+    NAMED(ORDERSHEET_REFUSED_CIRCLE, 7, answer_to("2\n0\n0\n0 1\n1 0\n"));
+    NAMED(ORDERSHEET_REFUSED_CROSSED, 8, answer_to("4\n0\n0\n0\n0\n0 2\n1 2\n1 3\n"));
+    NAMED(ORDERSHEET_REFUSED_RECORD_AREA, 9, answer_in("2\n0\n0\n0 1\n", 6, ORDERSHEET_REDUCED_AREA));
+    NAMED(ORDERSHEET_REFUSED_REDUCED_AREA, 10, answer_in("2\n0\n0\n0 1\n", ORDERSHEET_RECORD_AREA, 1));
+    NAMED(ORDERSHEET_REFUSED_REDUCED_AREA, 10, reread(hull, sizeof hull - 1, reduced, 7));
+    NAMED(ORDERSHEET_REFUSED_RECORD, 11, reread(hull, sizeof hull, reduced, ORDERSHEET_REDUCED_AREA));
+    NAMED(ORDERSHEET_REFUSED_RECORD, 11, longest_run(hull, sizeof hull).answer);
+    NAMED(ORDERSHEET_REFUSED_RECORD, 11, gang_plan(hull, sizeof hull).answer);
+    NAMED(ORDERSHEET_REFUSED_RECORD, 11, reason(hull, sizeof hull, 0, 0).answer);
+    NAMED(ORDERSHEET_REFUSED_HOURS_LENGTH, 12, preview(2, NULL, 0, two, 1, 0, 1));
+    NAMED(ORDERSHEET_REFUSED_HOURS, 13, answer_to("2\n0\n4096\n0 1\n"));
+    NAMED(ORDERSHEET_REFUSED_JOB, 14, reason(hull, sizeof hull - 1, 0, 5).answer);
+
+    named("ORDERSHEET_RULE_SAME", ORDERSHEET_RULE_SAME, 1, reason(hull, sizeof hull - 1, 3, 3).rule);
+    named("ORDERSHEET_RULE_BEFORE", ORDERSHEET_RULE_BEFORE, 2, reason(hull, sizeof hull - 1, 0, 3).rule);
+    named("ORDERSHEET_RULE_AFTER", ORDERSHEET_RULE_AFTER, 3, reason(hull, sizeof hull - 1, 3, 0).rule);
+    named("ORDERSHEET_RULE_FREE", ORDERSHEET_RULE_FREE, 4, reason(hull, sizeof hull - 1, 1, 2).rule);
+}
+
+/* The text of a number names this bound. */
+static void bound(const char *name, unsigned number, unsigned most_of_it)
+{
+    char digits[20];
+    snprintf(digits, sizeof digits, " %u", most_of_it);
+    check(name, "the text of its refusal names another bound", strstr(ordersheet_text(number), digits) != NULL);
+}
+
+/* Each number has a text of its own, and all that are none have one more. */
+static void texts(void)
+{
+    enum { LAST = ORDERSHEET_REFUSED_JOB };
+    const char *none = ordersheet_text(LAST + 1);
+    check("ordersheet_text", "empty", *none != '\0');
+    for (unsigned number = 0; number < 256; number++) {
+        const char *text = ordersheet_text(number);
+        char name[40];
+        snprintf(name, sizeof name, "ordersheet_text(%u)", number);
+        check(name, "empty, or that of no number, or the other way round", *text != '\0' && (strcmp(text, none) == 0) == (number > LAST));
+        for (unsigned other = 0; other < number && number <= LAST; other++)
+            check(name, "that of another number", strcmp(text, ordersheet_text(other)) != 0);
+        check(name, "another with places", strcmp(text, ordersheet_text(packed(number, 0x3456, 0x789a, 0xbc, 0xdef0))) == 0);
+    }
+    bound("ORDERSHEET_SHEET", ORDERSHEET_REFUSED_SHEET_LENGTH, ORDERSHEET_SHEET);
+    bound("ORDERSHEET_JOBS", ORDERSHEET_REFUSED_JOB_COUNT, ORDERSHEET_JOBS);
+    bound("ORDERSHEET_REDUCED_AREA", ORDERSHEET_REFUSED_ORDER_COUNT, ORDERSHEET_REDUCED_AREA / 2);
+    bound("ORDERSHEET_HOURS", ORDERSHEET_REFUSED_HOURS, ORDERSHEET_HOURS);
+}
+
+/* The count of records of every count: free jobs, and jobs in a chain. */
+static void job_counts(void)
+{
+    char name[40];
+    check("ordersheet_jobs, DESK.md's record", "other than 5", ordersheet_jobs(hull) == 5);
+    for (unsigned jobs = 1; jobs <= ORDERSHEET_JOBS; jobs++)
+        for (unsigned chain = 0; chain < 2; chain++) {
+            start(jobs);
+            for (unsigned job = 1; job < jobs && chain; job++)
+                order(job - 1, job);
+            snprintf(name, sizeof name, "ordersheet_jobs, %u jobs", jobs);
+            check(name, "another count", ordersheet_number(answer_to(sheet)) == 0 && ordersheet_jobs(record) == jobs);
+        }
 }
 
 static void longest_runs(void)
@@ -896,6 +993,9 @@ int main(void)
     most_orders();
     older();
     no_records();
+    names();
+    texts();
+    job_counts();
     longest_runs();
     fewest_gangs();
     reasons();
