@@ -41,11 +41,12 @@ module _ (t : List (List ℕ)) where
   module _ (row jobs : List ℕ) (joins₀ : ℕ) (made rest : List ℕ) (joins : ℕ) (p : Joined row jobs joins₀ made rest joins) where
     pub joined-next
         : (w : ℕ) → Least rest w → (more others : List ℕ) → ((v : ℕ) → has more v ≡ (has made v || holds t w v))
-        → ((v : ℕ) → has others v ≡ (has rest v && exists (has rest) (below v))) → Joined row jobs joins₀ more others (joins + 1)
-    joined-next w least more others joint without =
+        → ((v : ℕ) → has others v ≡ (has rest v && exists (has rest) (below v)))
+        → (joins′ : ℕ) → joins′ ≡ joins + 1 → Joined row jobs joins₀ more others joins′
+    joined-next w least more others joint without joins′ one =
         record {
           reached = λ v. same-test _ _ (back v) (on v) ∙ p .reached v;
-          counted = omega (arith, p .counted, ap length (members-step rest others w least without));
+          counted = omega (arith, one, p .counted, ap length (members-step rest others w least without));
         }
       where
         back : (v : ℕ) → (has more v || through others v) ≡ true → (has made v || through rest v) ≡ true

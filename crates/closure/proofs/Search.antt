@@ -5,14 +5,22 @@ use mathlib.Core.Path.{_≡_, sym, ap, _∙_}
 use mathlib.Core.List.{List}
 use mathlib.Core.Bool.{true, false, _&&_, _||_, not}
 use lib.Dec.{eqb}
-use lib.ListN.{length, getD, set, length-set}
+use lib.ListN.{length, getD, set}
 use Rattle.poset.specs.Lists.{exists, below}
 use Rattle.poset.specs.Order.{Rel}
 use Rattle.poset.proofs.Laws.{clash, false-unless, and-left, and-right, and-intro, any-found, any-miss, below-mem}
-use Rattle.relation.specs.Table.{has, holds, members, Greatest}
+use Rattle.relation.specs.Table.{has, members, Greatest}
 use Rattle.closure.specs.Rows.{Rows, Cyclic}
-use Rattle.closure.proofs.Onward.{joins-small, rows-next}
+use Rattle.closure.proofs.Onward.{joins-small}
 use Rattle.closure.proofs.Waiting.{Way, members-small, members-but, along-stack, way-none, way-here, way-room, way-cycle, way-known, way-push, way-pop}
+
+-- the rows made so far: a job that is left is one of 128, and the joins of one row more do not overflow
+module _ {r : Rel} {made : List (List ℕ)} {left : List ℕ} {joins : ℕ} (rows : (n : ℕ) × Rows n r made left joins) where
+  pub rows-job : (u : ℕ) → has left u ≡ true → u < 128
+  rows-job u h = let (n, p) = rows in omega (arith, p .jobs u h, p .small)
+
+  pub rows-room : (own : List ℕ) → joins + length (members own) < 2 ^ 64
+  rows-room own = let (n, p) = rows in omega (arith, p .counted, joins-small n r (p .small) left, members-small own)
 
 -- the rows made so far, and the jobs that wait on the stack
 pub record Searching (r : Rel) (made₀ : List (List ℕ)) (left₀ : List ℕ) (joins₀ : ℕ)
@@ -37,14 +45,17 @@ module _ (r : Rel) (made : List (List ℕ)) (left : List ℕ) (joins : ℕ) wher
 module _ {r : Rel} {made₀ : List (List ℕ)} {left₀ : List ℕ} {joins₀ : ℕ} {made : List (List ℕ)} {stack left met : List ℕ} {joins at depth : ℕ}
     (start : (n : ℕ) × Rows n r made₀ left₀ joins₀) (s : Searching r made₀ left₀ joins₀ made stack left met joins at depth)
   where
-    here : has left at ≡ true
-    here = way-here r stack left met at depth (s .way)
+    pub search-here : has left at ≡ true
+    search-here = way-here r stack left met at depth (s .way)
+
+    pub search-rows : (n : ℕ) × Rows n r made left joins
+    search-rows = let (n, p) = start in (n, s .rows n p)
 
     job : (u : ℕ) → has left u ≡ true → u < 128
-    job u h = let (n, p) = start in omega (arith, s .rows n p .jobs u h, p .small)
+    job = rows-job search-rows
 
     pub search-at : at < 128
-    search-at = job at here
+    search-at = job at search-here
 
     deep : depth < length (members left)
     deep = way-room r stack left met at depth (s .way) job
@@ -52,27 +63,13 @@ module _ {r : Rel} {made₀ : List (List ℕ)} {left₀ : List ℕ} {joins₀ : 
     pub search-depth : depth < 128
     search-depth = omega (arith, deep, members-small left)
 
-    -- a step on
-    pub push-less : remaining left (depth + 1) < remaining left depth
-    push-less = omega (arith, deep)
-
-    -- a step back: the job that the search is at leaves
-    module _ (left′ : List ℕ) (but : (x : ℕ) → has left′ x ≡ (has left x && not (eqb at x))) where
-      pub fewer-left : length (members left′) < length (members left)
-      fewer-left = members-but left left′ at search-at here but
-
-      pub leave-less : (d : ℕ) → depth ≡ d + 1 → remaining left′ d < remaining left depth
-      leave-less d e = omega (arith, fewer-left, deep)
-
     -- a number of the stack is that of a job
     pub search-job : (i : ℕ) → i < depth → getD stack i 0 < 128
     search-job i l = job _ (ap (has left) (sym (along-stack stack at depth i l)) ∙ s .way .waiting i (omega arith))
 
-    -- the joins of one row more do not overflow
-    pub search-joins : (own : List ℕ) → joins + length (members own) < 2 ^ 64
-    search-joins own =
-        let (n, p) = start in
-        omega (arith, s .rows n p .counted, joins-small n r (p .small) left, members-small own)
+    -- a step on
+    pub push-less : remaining left (depth + 1) < remaining left depth
+    push-less = omega (arith, deep)
 
     module _ (own next : List ℕ) (mine : (x : ℕ) → has own x ≡ r at x) (both : (x : ℕ) → has next x ≡ (has own x && has left x)) where
       -- arcs lead on
@@ -111,24 +108,34 @@ module _ {r : Rel} {made₀ : List (List ℕ)} {left₀ : List ℕ} {joins₀ : 
                     false-unless _ λ e.
                     clash (meet v ∙ and-intro _ _ (greatest .member) e) (any-miss (has back) (below 128) none (below-mem (greatest .small)))
 
-      -- all that the arcs lead to is finished: so is this row
-      module _ (last : exists (has next) (below 128) ≡ false) (left′ : List ℕ) (but : (x : ℕ) → has left′ x ≡ (has left x && not (eqb at x))) where
-        module _ (row : List ℕ) (joint : (v : ℕ) → has row v ≡ (has own v || exists (λ w. has own w && holds made w v) (below 128)))
-            (joins′ : ℕ) (sum : joins′ ≡ joins + length (members own))
-          where
-            pub search-rows : (n : ℕ) → Rows n r made₀ left₀ joins₀ → Rows n r (set made at row) left′ joins′
-            search-rows n p =
-                rows-next n r made left joins (s .rows n p) at here gone left′ but own row (omega (arith, search-at, s .size)) mine joint joins′ sum
-              where
-                gone : (v : ℕ) → r at v ≡ true → has left v ≡ false
-                gone v h =
-                    false-unless _ λ e. clash (both v ∙ and-intro _ _ (mine v ∙ h) e) (any-miss (has next) (below 128) last (below-mem (job v e)))
+      -- none does: all that they lead to is finished
+      pub search-last : exists (has next) (below 128) ≡ false → (v : ℕ) → r at v ≡ true → has left v ≡ false
+      search-last last v h =
+          false-unless _ λ e. clash (both v ∙ and-intro _ _ (mine v ∙ h) e) (any-miss (has next) (below 128) last (below-mem (job v e)))
 
-            pub search-pop : (d : ℕ) → depth ≡ d + 1 → Searching r made₀ left₀ joins₀ (set made at row) stack left′ met joins′ (getD stack d 0) d
-            search-pop d e =
-                record {
-                  size = length-set made at row ∙ s .size;
-                  fewer = omega (arith, s .fewer, fewer-left left′ but);
-                  way = way-pop r stack left met at depth (s .way) left′ but d e;
-                  rows = search-rows;
-                }
+    -- the row is finished, and its job leaves
+    module _ (left′ : List ℕ) (but : (x : ℕ) → has left′ x ≡ (has left x && not (eqb at x))) where
+      fewer-left : length (members left′) < length (members left)
+      fewer-left = members-but left left′ at search-at search-here but
+
+      -- a step back
+      pub leave-less : (d : ℕ) → depth ≡ d + 1 → remaining left′ d < remaining left depth
+      leave-less d e = omega (arith, fewer-left, deep)
+
+      pub search-less : length (members left′) < length (members left₀)
+      search-less = omega (arith, s .fewer, fewer-left)
+
+      module _ (made′ : List (List ℕ)) (size : length made′ ≡ 128) (joins′ : ℕ)
+          (finished : (n : ℕ) → Rows n r made left joins → Rows n r made′ left′ joins′)
+        where
+          pub search-made : (n : ℕ) → Rows n r made₀ left₀ joins₀ → Rows n r made′ left′ joins′
+          search-made n p = finished n (s .rows n p)
+
+          pub search-pop : (d : ℕ) → depth ≡ d + 1 → Searching r made₀ left₀ joins₀ made′ stack left′ met joins′ (getD stack d 0) d
+          search-pop d e =
+              record {
+                size = size;
+                fewer = omega (arith, s .fewer, fewer-left);
+                way = way-pop r stack left met at depth (s .way) left′ but d e;
+                rows = search-made;
+              }

@@ -3,7 +3,8 @@ use relation::reduction;
 use relation::set;
 ghost use Prim.Native.Nat.{ℕ, _+_, _^_, _<_, _≤_};
 ghost use mathlib.Core.Path.{_≡_};
-ghost use mathlib.Core.Bool.{true, false, _&&_, _||_};
+ghost use mathlib.Core.Bool.{true, false, _&&_, _||_, not};
+ghost use lib.Dec.{eqb};
 ghost use lib.ListN.{length};
 ghost use Rattle.poset.specs.Lists.{exists, below};
 ghost use Rattle.poset.specs.Order.{via};
@@ -11,10 +12,14 @@ ghost use Rattle.relation.specs.Table.{has, holds, members, Inside};
 ghost use Rattle.closure.specs.Joins.{joinCount};
 ghost use Rattle.closure.specs.Rows.{Rows, Cyclic};
 
-// The jobs whose rows are still to be made, and whether a cycle was met.
-struct Left {
-    jobs: [u64; 2],
-    cycle: bool,
+// The step that joins one row into another: it adds 1 to the count.
+fn join(row: [u64; 2], other: [u64; 2], joins: &mut usize) -> [u64; 2]
+    requires { ⌜ now joins + 1 < 2 ^ 64 ⌝ }
+    ensures { λ r. ⌜ ((v : ℕ) → has r v ≡ (has row v || has other v)) ⌝ }
+    ensures { λ _. ⌜ now (joins .exit) ≡ now (joins .entry) + 1 ⌝ }
+{
+    *joins += 1;
+    set::union(row, other)
 }
 
 // The rows of some jobs joined to a row, each join counted.
@@ -27,9 +32,8 @@ fn join_each(rows: &[[u64; 2]; 128], row: [u64; 2], jobs: [u64; 2], joins: &mut 
     let mut rest = jobs;
     while set::inhabited(rest) {
         let v = set::smallest(rest);
-        let more = set::union(whole, rows[v]);
         let others = set::without_smallest(rest);
-        *joins += 1;
+        let more = join(whole, rows[v], joins);
         whole = more;
         rest = others;
     }
@@ -46,49 +50,70 @@ fn joined(rows: &[[u64; 2]; 128], row: [u64; 2], joins: &mut usize) -> [u64; 2]
     join_each(rows, part, set::high(row), joins)
 }
 
-// The rows of a job and of all that it leads to. A job waits on a stack until the rows of all that its arcs lead to are finished; an arc to
-// itself or to a job on the stack is part of a cycle.
-fn follow(
+// The row of a job that is left, made from the rows of all that its arcs lead to, which are finished. The jobs that are left then: all but this one.
+fn finish(
     t: &[[u64; 2]; 128],
     made: &mut [[u64; 2]; 128],
     left: [u64; 2],
+    at: usize,
+    joins: &mut usize,
+) -> [u64; 2]
+    requires { ⌜ length (now made) ≡ 128 ⌝ }
+    requires { ⌜ has left at ≡ true ⌝ }
+    requires { ⌜ ((v : ℕ) → holds (now t) at v ≡ true → has left v ≡ false) ⌝ }
+    requires { ⌜ ((n : ℕ) × Rows n (holds (now t)) (now made) left (now joins)) ⌝ }
+    ensures { λ _. ⌜ length (now (made .exit)) ≡ 128 ⌝ }
+    ensures { λ r. ⌜ ((v : ℕ) → has r v ≡ (has left v && not (eqb at v))) ⌝ }
+    ensures { λ r. ⌜ ((n : ℕ) → Rows n (holds (now (t .entry))) (now (made .entry)) left (now (joins .entry))
+        → Rows n (holds (now (t .entry))) (now (made .exit)) r (now (joins .exit))) ⌝ }
+{
+    let row = t[at];
+    let whole = joined(made, row, joins);
+    made[at] = whole;
+    set::difference(left, set::only(at))
+}
+
+// The rows of a job that is left and of all that it leads to, if no cycle is met. A job waits on a stack until the rows of all that its arcs
+// lead to are finished; an arc to itself or to a job on the stack is part of a cycle. Whether none is met.
+fn follow(
+    t: &[[u64; 2]; 128],
+    made: &mut [[u64; 2]; 128],
+    left: &mut [u64; 2],
     root: usize,
     stack: &mut [u8; 128],
     joins: &mut usize,
-) -> Left
+) -> bool
     requires { ⌜ (length (now made) ≡ 128) × (length (now stack) ≡ 128) ⌝ }
-    requires { ⌜ has left root ≡ true ⌝ }
-    requires { ⌜ ((n : ℕ) × Rows n (holds (now t)) (now made) left (now joins)) ⌝ }
+    requires { ⌜ has (now left) root ≡ true ⌝ }
+    requires { ⌜ ((n : ℕ) × Rows n (holds (now t)) (now made) (now left) (now joins)) ⌝ }
     ensures { λ _. ⌜ (length (now (made .exit)) ≡ 128) × (length (now (stack .exit)) ≡ 128) ⌝ }
-    ensures { λ f. ⌜ (f .cycle ≡ true → (n : ℕ) → Rows n (holds (now (t .entry))) (now (made .entry)) left (now (joins .entry))
+    ensures { λ r. ⌜ (r ≡ false → (n : ℕ) → Rows n (holds (now (t .entry))) (now (made .entry)) (now (left .entry)) (now (joins .entry))
         → Cyclic n (holds (now (t .entry)))) ⌝ }
-    ensures { λ f. ⌜ (f .cycle ≡ false → (n : ℕ) → Rows n (holds (now (t .entry))) (now (made .entry)) left (now (joins .entry))
-        → Rows n (holds (now (t .entry))) (now (made .exit)) (f .jobs) (now (joins .exit))) ⌝ }
-    ensures { λ f. ⌜ (f .cycle ≡ false → length (members (f .jobs)) < length (members left)) ⌝ }
+    ensures { λ r. ⌜ (r ≡ true → (n : ℕ) → Rows n (holds (now (t .entry))) (now (made .entry)) (now (left .entry)) (now (joins .entry))
+        → Rows n (holds (now (t .entry))) (now (made .exit)) (now (left .exit)) (now (joins .exit))) ⌝ }
+    ensures { λ r. ⌜ (r ≡ true → length (members (now (left .exit))) < length (members (now (left .entry)))) ⌝ }
 {
-    let mut jobs = left;
+    let mut jobs = *left;
     let mut met = [0u64; 2];
     let mut at = root;
     let mut depth = 0;
     loop {
-        let row = t[at];
-        let next = set::intersection(row, jobs);
+        let next = set::intersection(t[at], jobs);
         if set::inhabited(next) {
             let more = set::union(met, set::only(at));
             if set::inhabited(set::intersection(next, more)) {
-                return Left { jobs, cycle: true };
+                return false;
             }
             met = more;
             stack[depth] = at as u8;
             depth += 1;
             at = set::largest(next);
         } else {
-            let whole = joined(made, row, joins);
-            made[at] = whole;
-            let others = set::difference(jobs, set::only(at));
+            let others = finish(t, made, jobs, at, joins);
             jobs = others;
             if depth == 0 {
-                return Left { jobs, cycle: false };
+                *left = jobs;
+                return true;
             }
             depth -= 1;
             at = stack[depth] as usize;
@@ -116,11 +141,9 @@ pub fn finish_all(
     *joins = 0;
     while set::inhabited(left) {
         let root = set::largest(left);
-        let next = follow(t, made, left, root, &mut stack, joins);
-        if next.cycle {
+        if !follow(t, made, &mut left, root, &mut stack, joins) {
             return false;
         }
-        left = next.jobs;
     }
     true
 }

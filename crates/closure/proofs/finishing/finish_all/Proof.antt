@@ -1,8 +1,9 @@
 -- `closure::finishing::finish_all` meets its contract.
 use borrow.Author.Needs.{needs}
+use borrow.Author.Tests.{not-false}
 use mathlib.Core.Path.{_≡_, refl, sym, _∙_}
 use lib.ListN.{length}
-use Rattle.poset.proofs.Laws.{clash}
+use Rattle.poset.proofs.Laws.{clash, not-true}
 use Rattle.relation.specs.Table.{holds, members}
 use Rattle.closure.specs.Rows.{Rows}
 use Rattle.closure.proofs.Onward.{rows-none, rows-table, rows-count}
@@ -32,24 +33,26 @@ largest-requires c κs = sym (c .before .inhabited .ensures) ∙ c .if1 .taken
 
 follow-requires : tie.Need-follow-requires Inv-loop μ-loop
 follow-requires c κs =
-    let g = c .before .before .before in
+    let g = c .before .before .before .before in
     let l = g .before .before .before .loop in
     ((l .inv .1, l .inv .2), (g .largest .ensures .member, (_, l .inv .0)))
+
+-- the turn in which a job was followed on
+abbrev turn : tie.After-follow Inv-loop μ-loop → tie.At-loop Inv-loop μ-loop
+turn f = f .before .before .before .before .before .before .before .before
 
 returns : tie.Need-returns Inv-loop μ-loop
 returns c =
     let f = c .before in
-    let l = f .before .before .before .before .before .before .before .loop in
-    (λ e. f .follow .ensures .1 .0 (c .if2 .taken) _ (l .inv .0), (λ e. absurd (clash e refl), λ e. absurd (clash e refl)))
+    (λ e. f .follow .ensures .1 .0 (not-true _ (c .if2 .taken)) _ (turn f .loop .inv .0), (λ e. absurd (clash e refl), λ e. absurd (clash e refl)))
 
 loop-less : tie.Need-loop-less Inv-loop μ-loop
-loop-less c = c .before .before .follow .ensures .1 .1 .1 (c .before .if2 .left)
+loop-less c = c .before .follow .ensures .1 .1 .1 (not-false _ (c .if2 .left))
 
 loop-again : tie.Need-loop-again Inv-loop μ-loop
 loop-again c =
-    let f = c .before .before in
-    let l = f .before .before .before .before .before .before .before .loop in
-    (f .follow .ensures .1 .1 .0 (c .before .if2 .left) _ (l .inv .0), f .follow .ensures .0 .0, f .follow .ensures .0 .1)
+    let f = c .before in
+    (f .follow .ensures .1 .1 .0 (not-false _ (c .if2 .left)) _ (turn f .loop .inv .0), f .follow .ensures .0 .0, f .follow .ensures .0 .1)
 
 returns-2 : tie.Need-returns-2 Inv-loop μ-loop
 returns-2 c =

@@ -24,44 +24,42 @@ inhabited-requires c κs = search needs
 smallest-requires : tie.Need-smallest-requires Inv-loop μ-loop
 smallest-requires c κs = sym (c .before .inhabited .ensures) ∙ c .if1 .taken
 
-mul-union : tie.Need-mul-union Inv-loop μ-loop
-mul-union c = search needs
-
-element-copy-out-union : tie.Need-element-copy-out-union Inv-loop μ-loop
-element-copy-out-union c = search needs
-
-union-requires : tie.Need-union-requires Inv-loop μ-loop
-union-requires c κs = search needs
-
 without-smallest-requires : tie.Need-without-smallest-requires Inv-loop μ-loop
-without-smallest-requires c κs =
-    let q = c .before .before .before in
-    sym (q .before .inhabited .ensures) ∙ q .if1 .taken
+without-smallest-requires c κs = sym (c .before .before .inhabited .ensures) ∙ c .before .if1 .taken
 
-add-joins : tie.Need-add-joins Inv-loop μ-loop
-add-joins c =
-    let q = c .before .before .before .before in
-    let l = q .before .before .before .loop in
+mul-join : tie.Need-mul-join Inv-loop μ-loop
+mul-join c = search needs
+
+element-copy-out-join : tie.Need-element-copy-out-join Inv-loop μ-loop
+element-copy-out-join c = search needs
+
+join-requires : tie.Need-join-requires Inv-loop μ-loop
+join-requires c κs =
+    let w = c .before .before in
+    let q = w .before in
+    let l = q .before .before .before in
     omega (
       arith,
-      l .inv .counted,
-      q .before .before .before .before .pre,
-      members-less (l .rest) _ _ (q .smallest .ensures) (c .before .without-smallest .ensures),
+      l .loop .inv .counted,
+      l .before .pre,
+      members-less (l .loop .rest) _ _ (q .smallest .ensures) (w .without-smallest .ensures),
     )
 
 loop-less : tie.Need-loop-less Inv-loop μ-loop
 loop-less c =
-    let q = c .before .before .before .before in
-    members-less (q .before .before .before .loop .rest) _ _ (q .smallest .ensures) (c .before .without-smallest .ensures)
+    let w = c .before .before .before in
+    let q = w .before in
+    members-less (q .before .before .before .loop .rest) _ _ (q .smallest .ensures) (w .without-smallest .ensures)
 
 loop-again : tie.Need-loop-again Inv-loop μ-loop
 unfolding holds
 loop-again c =
-    let q = c .before .before .before .before in
+    let w = c .before .before .before in
+    let q = w .before in
     let l = q .before .before .before .loop in
     let a = q .before .before .before .before .args in
     joined-next (a .rows .now) (a .row) (a .jobs) (a .joins .now) (l .whole) (l .rest) (l .joins) (l .inv) _ (q .smallest .ensures) _ _
-    (c .before .before .union .ensures) (c .before .without-smallest .ensures)
+    (c .join .ensures .0) (w .without-smallest .ensures) _ (c .join .ensures .1)
 
 returns : tie.Need-returns Inv-loop μ-loop
 returns c =
@@ -78,11 +76,10 @@ join-each-spec =
     loop-holds
     inhabited-requires
     smallest-requires
-    mul-union
-    element-copy-out-union
-    union-requires
     without-smallest-requires
-    add-joins
+    mul-join
+    element-copy-out-join
+    join-requires
     loop-less
     loop-again
     returns)
