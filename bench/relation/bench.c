@@ -15,6 +15,7 @@ static inline set and_(set a, set b) { return (set){{a.w[0] & b.w[0], a.w[1] & b
 static inline set or_(set a, set b) { return (set){{a.w[0] | b.w[0], a.w[1] | b.w[1]}}; }
 static inline set but(set a, set b) { return (set){{a.w[0] & ~b.w[0], a.w[1] & ~b.w[1]}}; }
 static inline int none(set a) { return !(a.w[0] | a.w[1]); }
+static inline int same(set a, set b) { return !((a.w[0] ^ b.w[0]) | (a.w[1] ^ b.w[1])); }
 static inline int low(set a) { return a.w[0] ? __builtin_ctzll(a.w[0]) : 64 + __builtin_ctzll(a.w[1]); }
 static inline int high(set a) { return a.w[1] ? 127 - __builtin_clzll(a.w[1]) : 63 - __builtin_clzll(a.w[0]); }
 #define EACH(j, s) for (int q_##j = 0, j; q_##j < 2; q_##j++) for (uint64_t x_##j = (s).w[q_##j]; x_##j && (j = 64 * q_##j + __builtin_ctzll(x_##j), 1); x_##j &= x_##j - 1)
@@ -119,6 +120,8 @@ __attribute__((noinline)) static uint64_t c_first_n(const uint16_t *arcs, size_t
     turn(under, after, n);
     for (int i = 0; i < n; i++) put(&all, i);
     for (int x = 0; x < n; x++) {
+        // before and after the same jobs as the one just below it, which is the first of no N
+        if (x && same(after[x], after[x - 1]) && same(under[x], under[x - 1])) continue;
         set ys = but(but(all, after[x]), under[x]);
         EACH(y, ys) {
             if (y == x) continue;

@@ -11,6 +11,7 @@ static inline set both(set a, set b) { return (set){{a.w[0] & b.w[0], a.w[1] & b
 static inline set join(set a, set b) { return (set){{a.w[0] | b.w[0], a.w[1] | b.w[1]}}; }
 static inline set less(set a, set b) { return (set){{a.w[0] & ~b.w[0], a.w[1] & ~b.w[1]}}; }
 static inline int some(set a) { return (a.w[0] | a.w[1]) != 0; }
+static inline int same(set a, set b) { return ((a.w[0] ^ b.w[0]) | (a.w[1] ^ b.w[1])) == 0; }
 static inline unsigned low(set a) { return a.w[0] ? __builtin_ctzll(a.w[0]) : 64 + __builtin_ctzll(a.w[1]); }
 static inline unsigned high(set a) { return a.w[1] ? 127 - __builtin_clzll(a.w[1]) : 63 - __builtin_clzll(a.w[0]); }
 static inline set only(unsigned v) { return v < 64 ? (set){{1ull << v, 0}} : (set){{0, 1ull << (v - 64)}}; }
@@ -268,10 +269,11 @@ static int write_record(tree *t, unsigned n) {
     return 1;
 }
 
-// The first N: a before c, b before c and d, and a b, c d, a d free.
+// The first N: a before c, b before c and d, and a b, c d, a d free. A job that is before and after the same jobs as the one just below it is passed over:
+// where that one is the first job of no N, neither is this one.
 static uint64_t first_n(const set *after, const tree *t, unsigned n) {
     for (unsigned a = 0; a < n; a++) {
-        if (!some(after[a])) continue;
+        if (!some(after[a]) || (a && same(after[a], after[a - 1]) && same(t->under[a], t->under[a - 1]))) continue;
         for (set bs = less(less(below(n), only(a)), t->near[a]); some(bs); bs = but_low(bs)) {
             unsigned b = low(bs);
             set ds = less(after[b], t->near[a]);

@@ -9,3 +9,4 @@ pub mod Chain
 pub mod Sought
 pub mod Digits
 pub mod Exchanging
+pub mod Twins

@@ -1,6 +1,6 @@
 -- Lists of which a test keeps a part, searches in them, and the numbers of a range.
 use Prim.Native.Nat.{ℕ, zero, suc, _+_, _-_, _≤_, _<_, zero-le, suc-le-suc}
-use native.Mathlib.Nat.{lt-of-lt-of-le, le-trans, le-suc}
+use native.Mathlib.Nat.{eq-or-lt-of-le, lt-of-lt-of-le, le-trans, le-suc}
 use native.Mathlib.Decide.{decLt}
 use native.Mathlib.Omega.{arith}
 use mathlib.Core.Path.{_≡_, refl, sym, ap, _∙_}
@@ -14,7 +14,7 @@ use borrow.Author.Tests.{lt-ltb, le-ltb}
 use Rattle.poset.specs.Lists.{exists, keep, upFrom, below, first, onlyIf}
 use Rattle.poset.proofs.Laws.{decided, any-hit, any-none, any-append, keep-yes, keep-not, below-mem, mem-below, below-add}
 use Rattle.poset.proofs.Laws.{first-here, first-later, found-or-none, found-clash, only-if-some, only-if-none}
-use Rattle.poset.proofs.Searches.{first-none, none-first}
+use Rattle.poset.proofs.Searches.{first-none, none-first, none-below}
 
 pub and-true : (b : Bool) → (b && true) ≡ b
 and-true true = refl
@@ -190,24 +190,32 @@ pub range-end : (k n : ℕ) → n ≤ k → upFrom k (n - k) ≡ []
 unfolding upFrom
 range-end k n l = let e : n - k ≡ 0 = omega arith in rw e
 
--- a search over the numbers below n that has come to k
+-- a search over the numbers below n that has come to k and found nothing
 module _ {ℓ} {B : Type ℓ} (f : ℕ → Option B) (n : ℕ) where
   pub record Looked (k : ℕ) : Type ℓ where
     pub within : k ≤ n
-    pub left : first f (below n) ≡ first f (upFrom k (n - k))
+    pub nothing : (i : ℕ) → i < k → f i ≡ none
 
   pub looked-none : Looked 0
-  looked-none = record { within = zero-le; left = ap (first f) (range-start n) }
+  looked-none = record { within = zero-le; nothing = λ i l. absurd (omega arith) }
 
   module _ (k : ℕ) (s : Looked k) where
     pub looked-end : n ≤ k → none ≡ first f (below n)
-    unfolding first
-    looked-end l = sym (s .left ∙ ap (first f) (range-end k n l))
+    looked-end l = sym (none-below f n .1 (λ i m. s .nothing i (lt-of-lt-of-le m l)))
 
     module _ (l : k < n) where
       pub looked-hit : {b : B} → f k ≡ some b → some b ≡ first f (below n)
-      looked-hit h = sym (s .left ∙ ap (first f) (range-step k n l) ∙ first-here f k _ h)
+      looked-hit h =
+          let e : n ≡ k + (n - k) = omega arith in
+          sym (ap (λ (m : ℕ). first f (below m)) e
+          ∙ ap (first f) (below-add k (n - k))
+          ∙ first-append-later f (below k) (upFrom k (n - k)) (none-below f k .1 (s .nothing))
+          ∙ ap (first f) (range-step k n l)
+          ∙ first-here f k _ h)
 
       pub looked-next : f k ≡ none → Looked (k + 1)
       looked-next h =
-          record { within = omega arith; left = s .left ∙ ap (first f) (range-step k n l) ∙ first-later f k _ h }
+          record {
+            within = omega arith;
+            nothing = λ i m. ⊎-elim (λ (e : i ≡ k). ap f e ∙ h) (λ (d : i < k). s .nothing i d) (eq-or-lt-of-le (omega arith));
+          }

@@ -5,7 +5,7 @@ use native.Mathlib.Decide.{decLt, ℕ-discrete}
 use native.Mathlib.Omega.{arith}
 use mathlib.Core.Path.{_≡_, refl, sym, ap, ap₂, subst, _∙_}
 use mathlib.Core.List.{List, [], _∷_, _++_, map, append-nil, List·Memᴰ, List·Memᴰ·head, List·Memᴰ·tail}
-use mathlib.Core.Bool.{Bool, true, false, _&&_, _||_, not}
+use mathlib.Core.Bool.{Bool, true, false, _&&_, _||_, not, xor}
 use mathlib.Core.Logic.{_⊎_, inl, inr, ⊎-elim}
 use mir.Syntax.{w64}
 use mir.Val.{Fits}
@@ -16,7 +16,7 @@ use lib.Bits.{bitAnd, bitOr, or-add-and, and-le-l, and-le-r}
 use lib.Count.{trailingZeros, leadingZeros, ones, ones-le}
 use borrow.Author.Tests.{lt-ltb, le-ltb, eq-eqb, ne-eqb, ltb-true, eqb-true}
 use Rattle.poset.specs.Lists.{exists, keep, upFrom, below}
-use Rattle.poset.proofs.Laws.{clash, false-unless, same-test, any-hit, any-found, any-miss, any-none}
+use Rattle.poset.proofs.Laws.{clash, false-unless, not-true, same-test, any-hit, any-found, any-miss, any-none}
 use Rattle.poset.proofs.Laws.{keep-yes, keep-not, keep-mem, mem-keep, keep-agree, below-mem, mem-below, mem-upFrom, below-add}
 use Rattle.relation.specs.Table.{bit, has, members, Least, Greatest}
 use Rattle.relation.proofs.Lists.{and-true, and-false, and-comm, or-false, keep-append, keep-none, keep-shift, keep-from}
@@ -49,6 +49,26 @@ has-small s n v e = elim (decLt v 128) [ yes l ↦ l | no l ↦ absurd (clash e 
 -- a row with no job below 128 has none
 pub has-none : (s : List ℕ) → length s ≡ 2 → exists (has s) (below 128) ≡ false → (v : ℕ) → has s v ≡ false
 has-none s n h v = false-unless _ (λ e. clash e (any-miss (has s) (below 128) h (below-mem (has-small s n v e))))
+
+-- a job in one of two rows alone
+
+pub in-one-alone : (a b : Bool) → ((a && not b) || (b && not a)) ≡ xor a b
+unfolding xor
+in-one-alone true true = refl
+in-one-alone true false = refl
+in-one-alone false true = refl
+in-one-alone false false = refl
+
+in-both : (a b : Bool) → xor a b ≡ false → a ≡ b
+unfolding xor
+in-both true true h = refl
+in-both true false h = h
+in-both false true h = sym h
+in-both false false h = refl
+
+pub same-jobs : (a b : List ℕ) → not (exists (λ v. xor (has a v) (has b v)) (below 128)) ≡ true → (v : ℕ) → v < 128 → has a v ≡ has b v
+same-jobs a b h v l =
+    in-both _ _ (any-miss (λ x. xor (has a x) (has b x)) (below 128) (not-true _ h) (below-mem l))
 
 -- a test of a job's bit in its word
 pub has-tested

@@ -40,6 +40,11 @@ holds t u v = has (getD t u []) v
 unfoldable pub apart : ℕ → Rel → Rel
 apart n r u v = ltb u n && (ltb v n && incomparable r u v)
 
+-- two jobs that stand to every job in the same way
+pub record Twins (r : Rel) (u v : ℕ) : Type 0 where
+  pub rows : (w : ℕ) → w < 128 → r u w ≡ r v w
+  pub columns : (w : ℕ) → w < 128 → r w u ≡ r w v
+
 -- all that a table holds is among the jobs below n
 abbrev pub Inside : ℕ → List (List ℕ) → Type 0
 Inside n t = (u v : ℕ) → holds t u v ≡ true → (u < n) × (v < n)

@@ -2,13 +2,13 @@
 use crate::Found;
 use crate::FoundFour;
 use crate::set;
-ghost use Prim.Native.Nat.{ℕ, _<_, _≤_};
+ghost use Prim.Native.Nat.{ℕ, _-_, _<_, _≤_};
 ghost use mathlib.Core.Path.{_≡_};
-ghost use mathlib.Core.Bool.{true, _&&_};
+ghost use mathlib.Core.Bool.{true, false, _&&_};
 ghost use mathlib.Core.Option.{some};
 ghost use Rattle.poset.specs.Lists.{exists, first, below, onlyIf};
 ghost use Rattle.poset.specs.Order.{isN, firstN};
-ghost use Rattle.relation.specs.Table.{has, holds, members, apart, Inside};
+ghost use Rattle.relation.specs.Table.{has, holds, members, apart, Twins, Inside};
 ghost use Rattle.relation.specs.Arcs.{found, foundFour};
 
 // The table of the incomparable jobs: for each job those below n that are not itself, nor after it, nor before it.
@@ -111,6 +111,43 @@ fn first_with_a(after: &[[u64; 2]; 128], free: &[[u64; 2]; 128], n: usize, a: us
     FoundFour::Nothing
 }
 
+// Whether a stands to every job as the one numbered just below it does.
+fn twin(after: &[[u64; 2]; 128], under: &[[u64; 2]; 128], a: usize) -> bool
+    requires { ⌜ a < 128 ⌝ }
+    requires { ⌜ ((u v : ℕ) → holds (now under) u v ≡ holds (now after) v u) ⌝ }
+    ensures { λ r. ⌜ (r ≡ true → (0 < a) × Twins (holds (now (after .entry))) (a - 1) a) ⌝ }
+{
+    if a == 0 {
+        return false;
+    }
+    if !set::same(after[a - 1], after[a]) {
+        return false;
+    }
+    set::same(under[a - 1], under[a])
+}
+
+// As first_with_a, where no N begins with a job below a: then none begins with a twin of the one just below it either.
+fn first_unless_twin(
+    after: &[[u64; 2]; 128],
+    under: &[[u64; 2]; 128],
+    free: &[[u64; 2]; 128],
+    n: usize,
+    a: usize,
+) -> FoundFour
+    requires { ⌜ (n ≤ 128) × (a < n) ⌝ }
+    requires { ⌜ Inside n (now after) ⌝ }
+    requires { ⌜ ((u v : ℕ) → holds (now under) u v ≡ holds (now after) v u) ⌝ }
+    requires { ⌜ ((u v : ℕ) → holds (now free) u v ≡ apart n (holds (now after)) u v) ⌝ }
+    requires { ⌜ ((i : ℕ) → i < a → (b c d : ℕ) → b < n → c < n → d < n → isN (holds (now after)) i b c d ≡ false) ⌝ }
+    ensures { λ r. ⌜ foundFour r
+        ≡ first (λ b. first (λ c. first (λ d. onlyIf (isN (holds (now (after .entry))) a b c d) (a, b, c, d)) (below n)) (below n)) (below n) ⌝ }
+{
+    if twin(after, under, a) {
+        return FoundFour::Nothing;
+    }
+    first_with_a(after, free, n, a)
+}
+
 // The first N of the order that one table holds and the other holds transposed.
 pub fn first_n(after: [[u64; 2]; 128], under: &[[u64; 2]; 128], n: usize) -> FoundFour
     requires { ⌜ n ≤ 128 ⌝ }
@@ -120,7 +157,7 @@ pub fn first_n(after: [[u64; 2]; 128], under: &[[u64; 2]; 128], n: usize) -> Fou
 {
     let free = incomparabilities(&after, under, n);
     for a in 0..n {
-        let found = first_with_a(&after, &free, n, a);
+        let found = first_unless_twin(&after, under, &free, n, a);
         let FoundFour::Nothing = found else {
             return found;
         };

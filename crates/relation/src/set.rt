@@ -1,7 +1,7 @@
 //! Sets of the jobs below 128, two words each: job v is bit v % 64 of word v / 64.
 ghost use mathlib.Core.Path.{_≡_};
 ghost use Prim.Native.Nat.{ℕ, _<_, _≤_};
-ghost use mathlib.Core.Bool.{true, _&&_, _||_, not};
+ghost use mathlib.Core.Bool.{true, _&&_, _||_, not, xor};
 ghost use lib.Dec.{eqb, ltb};
 ghost use lib.ListN.{length};
 ghost use Rattle.poset.specs.Lists.{exists, below};
@@ -84,6 +84,13 @@ pub fn inhabited(s: [u64; 2]) -> bool
     ensures { λ r. ⌜ r ≡ exists (has s) (below 128) ⌝ }
 {
     s[0] | s[1] != 0
+}
+
+// Whether two sets have the same members.
+pub fn same(a: [u64; 2], b: [u64; 2]) -> bool
+    ensures { λ r. ⌜ r ≡ not (exists (λ v. xor (has a v) (has b v)) (below 128)) ⌝ }
+{
+    !inhabited(union(difference(a, b), difference(b, a)))
 }
 
 pub fn smallest(s: [u64; 2]) -> usize

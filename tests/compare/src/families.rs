@@ -8,6 +8,7 @@ use crate::preview;
 use crate::reason;
 use crate::runs;
 use crate::sides;
+use crate::twins;
 use second::{cases, LONGEST_RECORD, LONGEST_SHEET, MOST_ORDERS};
 use std::collections::BTreeSet;
 
@@ -40,7 +41,7 @@ impl Task {
 
 /// All tasks, those of the heavy families first.
 pub fn tasks() -> Vec<Task> {
-    let families: [(&'static str, usize, Body); 68] = [
+    let families: [(&'static str, usize, Body); 69] = [
         (
             "sheets about the longest",
             LONG_COUNTS.len(),
@@ -50,6 +51,7 @@ pub fn tasks() -> Vec<Task> {
         ("series-parallel orders", 40, series_parallel_orders),
         ("some orders more", 30, some_orders_more),
         ("any graph", 30, any_graphs),
+        ("orders with twins", 8, twins::kinds_of_jobs),
         ("the last bytes", LAST_PARTS, last_bytes),
         ("many orders", 10, many_orders),
         ("areas of every length", 20, every_area),

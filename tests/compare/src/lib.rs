@@ -14,6 +14,7 @@ pub mod preview;
 pub mod reason;
 pub mod runs;
 pub mod sides;
+pub mod twins;
 
 use check::Tally;
 use families::Task;

@@ -5,6 +5,7 @@ mod gangs;
 mod preview;
 mod reason;
 mod sides;
+mod twins;
 
 use crate::ffi;
 use crate::generate::{list, with_hours_of, Bits};
@@ -19,7 +20,7 @@ use std::sync::atomic::{AtomicUsize, Ordering};
 
 pub static FAULT: AtomicUsize = AtomicUsize::new(0);
 
-pub const FAULTS: [&str; 425] = [
+pub const FAULTS: [&str; 428] = [
     "none",
     "a byte after the record is set",
     "a byte after the reduced orders is set",
@@ -58,6 +59,9 @@ pub const FAULTS: [&str; 425] = [
     "a self order counts as a circle",
     "the order's place counts from 1",
     "c and d of the N are exchanged",
+    "a job with the row of the one below it is passed over",
+    "a job with the column of the one below it is passed over",
+    "twins are told by the jobs below 64 alone",
     "the last byte of a record may be missing where it is zero",
     "bits that fill the last byte may be set",
     "zero bytes may follow the record",
@@ -718,7 +722,7 @@ unsafe fn analysed(
         outcome.places[0] += 1;
     }
     let outcome = match asked {
-        Some(asked) => asked.misheeded(outcome, lent),
+        Some(asked) => twins::passed_over(asked, asked.misheeded(outcome, lent)),
         None => outcome,
     };
     let record = outcome.record.clone();

@@ -33,7 +33,7 @@ slice-aggregate-of-sheet-2 : tie.Need-slice-aggregate-of-sheet-2
 slice-aggregate-of-sheet-2 c = search needs
 
 of-sheet-requires-2 : tie.Need-of-sheet-requires-2
-of-sheet-requires-2 c κs = (c .before .before .before .before .if1 .left, inl (omega arith))
+of-sheet-requires-2 c κs = let t = c .before .before .before in (t .before .before .if1 .left, inr (t .if3 .taken))
 
 same-length-3 : tie.Need-same-length-3
 same-length-3 c = search needs
@@ -43,6 +43,21 @@ same-length-4 c = search needs
 
 returns-3 : tie.Need-returns-3
 returns-3 c = search needs
+
+slice-aggregate-of-sheet-3 : tie.Need-slice-aggregate-of-sheet-3
+slice-aggregate-of-sheet-3 c = search needs
+
+of-sheet-requires-3 : tie.Need-of-sheet-requires-3
+of-sheet-requires-3 c κs = (c .before .before .before .before .before .if1 .left, inl (omega arith))
+
+same-length-5 : tie.Need-same-length-5
+same-length-5 c = search needs
+
+same-length-6 : tie.Need-same-length-6
+same-length-6 c = search needs
+
+returns-4 : tie.Need-returns-4
+returns-4 c = search needs
 
 pub analyse-sheet-spec : {M : Type 1} → statement M
 analyse-sheet-spec =
@@ -59,4 +74,9 @@ analyse-sheet-spec =
     of-sheet-requires-2
     same-length-3
     same-length-4
-    returns-3)
+    returns-3
+    slice-aggregate-of-sheet-3
+    of-sheet-requires-3
+    same-length-5
+    same-length-6
+    returns-4)

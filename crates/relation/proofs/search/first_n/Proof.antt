@@ -7,6 +7,7 @@ use Rattle.poset.proofs.Searches.{at-a}
 use Rattle.relation.specs.Table.{holds}
 use Rattle.relation.specs.Arcs.{foundFour}
 use Rattle.relation.proofs.Lists.{Looked, looked-none, looked-hit, looked-next, looked-end}
+use Rattle.relation.proofs.Twins.{none-at}
 use borrow.Author.Needs.{needs}
 use Rattle.relation.proofs.search.first_n.Statement.{statement}
 use Rattle.relation.proofs.search.first_n.Tie as tie
@@ -23,11 +24,12 @@ incomparabilities-requires c κs = let p = c .before .pre in (p .0, p .1 .1)
 loop-holds : tie.Need-loop-holds Inv-loop μ-loop
 loop-holds c = let a = c .before .before .args in looked-none (at-a (a .n) (holds (a .t1))) (a .n)
 
-first-with-a-requires : tie.Need-first-with-a-requires Inv-loop μ-loop
-first-with-a-requires c κs =
-    let k = c .before .before .before .before in
+first-unless-twin-requires : tie.Need-first-unless-twin-requires Inv-loop μ-loop
+first-unless-twin-requires c κs =
+    let l = c .before .before .before in
+    let k = l .before in
     let s = k .before .before in
-    ((s .pre .0, search needs), (s .pre .1 .0, k .incomparabilities .ensures))
+    ((s .pre .0, search needs), (s .pre .1 .0, (s .pre .1 .1, (k .incomparabilities .ensures, λ i m. none-at _ _ i (l .loop .inv .nothing i m)))))
 
 enum-told : tie.Need-enum-told Inv-loop μ-loop
 enum-told c = search needs
@@ -43,7 +45,7 @@ returns c =
     let s = w .before .before .before .before .before .before .before in
     let e = ap foundFour (c .enum-told2 .given .1) in
     e
-    ∙ looked-hit (at-a (s .args .n) (holds (s .args .t1))) (s .args .n) (l .a) (l .inv) (search needs) (sym (w .first-with-a .ensures) ∙ e)
+    ∙ looked-hit (at-a (s .args .n) (holds (s .args .t1))) (s .args .n) (l .a) (l .inv) (search needs) (sym (w .first-unless-twin .ensures) ∙ e)
 
 add-a : tie.Need-add-a Inv-loop μ-loop
 add-a c = search needs
@@ -57,7 +59,7 @@ loop-again c =
     let l = w .before .before .before .before .loop in
     let s = w .before .before .before .before .before .before .before in
     looked-next (at-a (s .args .n) (holds (s .args .t1))) (s .args .n) (l .a) (l .inv) (search needs)
-    (sym (w .first-with-a .ensures) ∙ ap foundFour (c .enum-told .given .1))
+    (sym (w .first-unless-twin .ensures) ∙ ap foundFour (c .enum-told .given .1))
 
 returns-2 : tie.Need-returns-2 Inv-loop μ-loop
 unfolding firstN
@@ -73,7 +75,7 @@ first-n-spec =
     μ-loop
     incomparabilities-requires
     loop-holds
-    first-with-a-requires
+    first-unless-twin-requires
     enum-told
     enum-told-2
     returns

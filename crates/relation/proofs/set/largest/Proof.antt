@@ -3,7 +3,7 @@ use mathlib.Core.Path.{_≡_}
 use borrow.Author.Needs.{needs}
 use native.Mathlib.Omega.{arith}
 use lib.ListN.{getD}
-use lib.Count.{leadingZeros, leading-le}
+use lib.Count.{leading-le}
 use Rattle.relation.proofs.Words.{highest}
 use Rattle.relation.proofs.Sets.{Row, largest-high, largest-low, second-some}
 use Rattle.relation.proofs.set.largest.Statement.{statement}
