@@ -17,8 +17,8 @@ use Rattle.poset.proofs.Standing.{
   near,
   other,
   near-sym,
+  forced,
 }
-use Rattle.poset.proofs.Standing.{forced}
 use Rattle.poset.proofs.Shape.{InGroup, Across, Good, GoodForest}
 use Rattle.poset.proofs.Meaning.{means-fits}
 use Rattle.poset.proofs.Linked.{stay-first, stay-rest}

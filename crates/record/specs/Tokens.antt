@@ -10,10 +10,6 @@ use Rattle.poset.specs.Tree.{Kind, Tree, leaf, node, Forest, last, more}
 use Rattle.record.specs.Bits.{AllBelow, bits}
 use Rattle.record.specs.Layout.{hoursBits, kindBit, moreChildren, hoursOf}
 
--- leaves that fit a record: at most 128, all below 128, so that every field of the tree fits in 7 bits
-abbrev pub Small : List ℕ → Type 0
-Small js = AllBelow 128 js × (length js ≤ 128)
-
 abbrev pub groupToken : Kind → ℕ → ℕ
 groupToken k m = 256 + 128 * kindBit k + m
 
@@ -37,3 +33,7 @@ nodeRoom = 256
 -- tokens in the first entries of so many, the others 0
 abbrev pub listing : List ℕ → List ℕ
 listing xs = xs ++ replicate (nodeRoom - length xs) 0
+
+-- leaves that fit a record: at most 128, all below 128, so that every field of the tree fits in 7 bits
+abbrev pub Small : List ℕ → Type 0
+Small js = AllBelow 128 js × (length js ≤ 128)
