@@ -8,7 +8,6 @@ use Rattle.poset.specs.Order.{Rel, Four, Strict, firstN}
 use Rattle.poset.specs.Tree.{Tree}
 use Rattle.poset.specs.Decompose.{treeOf}
 use Rattle.poset.proofs.Theorems.{tree-of-sound, tree-has-no-n, first-n-none}
-use Rattle.relation.specs.declared.FoundFour.the-variants as four
 use Rattle.analysis.specs.Answer.{answer}
 use Rattle.analysis.specs.Outcome.{Rooms, Outcome, refuse, accept, fitted, decomposed}
 use Rattle.analysis.specs.Result.{answerOf, refusal, crossedBy, Gives}

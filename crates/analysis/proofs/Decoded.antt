@@ -1,6 +1,6 @@
 -- Bytes read as a record: the order of the sequences that were read, and the outcome.
-use Prim.Native.Nat.{ℕ, _+_, _*_, _≤_, _<_}
-use mathlib.Core.Path.{_≡_, refl, sym, ap, subst, _∙_}
+use Prim.Native.Nat.{ℕ, _*_, _≤_, _<_}
+use mathlib.Core.Path.{_≡_, refl, sym, ap, _∙_}
 use mathlib.Core.List.{List, []}
 use mathlib.Core.Bool.{true, false, _&&_}
 use mathlib.Core.Option.{Option, none, some}
@@ -8,7 +8,7 @@ use lib.ListN.{length, take}
 use Rattle.poset.specs.Areas.{overlay, padded, arcBytes}
 use Rattle.poset.specs.Lists.{occurrences, aheadIn}
 use Rattle.poset.specs.Order.{Rel, Strict, covers, pairsOf}
-use Rattle.poset.specs.Tree.{Tree, leaves, reversed, groups, precedes}
+use Rattle.poset.specs.Tree.{Tree, leaves, reversed, groups}
 use Rattle.poset.proofs.Laws.{clash}
 use Rattle.relation.specs.Table.{holds, Inside}
 use Rattle.record.specs.Bits.{AllBelow}
@@ -18,7 +18,7 @@ use Rattle.record.proofs.Theorems.{layout-decode}
 use Rattle.reader.specs.Answer.{reading}
 use Rattle.reader.specs.declared.Reading.{Reading}
 use Rattle.reader.proofs.Realized.{order-ready, order-precedes, order-inside, order-strict}
-use Rattle.analysis.specs.Outcome.{Outcome, refuse, arcsFit, readBack, recordOutcome}
+use Rattle.analysis.specs.Outcome.{Outcome, arcsFit, readBack, recordOutcome}
 use Rattle.analysis.specs.Result.{refusal, Gives}
 use Rattle.analysis.specs.declared.Verdict.the-variants as verdict
 use Rattle.analysis.proofs.Crossing.{gives-refusal}

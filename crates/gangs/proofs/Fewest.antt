@@ -13,11 +13,12 @@ use lib.ListN.{length, length-append}
 use Rattle.poset.specs.Lists.{member, sum, below}
 use Rattle.poset.specs.Order.{Rel, comparable, incomparable}
 use Rattle.poset.specs.Tree.{Kind, series, parallel, Tree, leaf, node, Forest, last, more, trees, leaves, forestLeaves, Means}
+use Rattle.poset.specs.Inner.{In, InForest, Once, OnceForest, Apart}
 use Rattle.poset.proofs.Laws.{decided, false-unless, ltb-true, member-mem, mem-member, mem-split, mem-count, count-append, flatMap-mem}
 use Rattle.poset.proofs.Sums.{sum-le, sum-agree, sum-keep, sum-one, sum-const, sum-swap}
 use Rattle.poset.proofs.Distinct.{Distinct, cond-le, pigeons}
 use Rattle.poset.proofs.Standing.{is-tied, near-once}
-use Rattle.poset.proofs.Shape.{In, InForest, InGroup, in-leaves, leaves-in, trees-leaves, Once, OnceForest, Apart, Across, Good, GoodForest, good-once}
+use Rattle.poset.proofs.Shape.{InGroup, in-leaves, leaves-in, trees-leaves, Across, Good, GoodForest, good-once}
 use Rattle.poset.proofs.Heaviest.{Weighed, grown, heaviest, forestHeaviest, not-less, attained, laid-distinct, laid-near, not-heavier}
 use Rattle.poset.proofs.Meaning.{Fits, means-fits}
 use Rattle.gangs.specs.Antichains.{Antichain, ChainPartition, IsFewest, AreLoads}

@@ -11,8 +11,8 @@ use Rattle.poset.specs.Tree.{Kind, series, Tree, leaf, node, Forest, last, more
 use Rattle.poset.proofs.Laws.{keep-yes, keep-not}
 use Rattle.relation.proofs.Lists.{keep-append}
 use Rattle.record.specs.Layout.{kindBit, moreChildren}
-use Rattle.record.specs.Tokens.{tokens, forestTokens, groupToken}
-use Rattle.record.proofs.Sizes.{Small, small-left, small-right, groups-lt}
+use Rattle.record.specs.Tokens.{tokens, forestTokens, groupToken, Small}
+use Rattle.record.proofs.Sizes.{small-left, small-right, groups-lt}
 use Rattle.record.proofs.Tokens.{tokens-length}
 use Rattle.record.proofs.Entries.{entry-padded}
 use Rattle.reader.specs.Nodes.{Listed}

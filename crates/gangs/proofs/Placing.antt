@@ -10,8 +10,8 @@ use Rattle.poset.specs.Lists.{occurrences, sum}
 use Rattle.poset.specs.Tree.{Kind, series, parallel, Tree, leaf, node, Forest, last, more, trees, leaves, forestLeaves, groups, forestGroups}
 use Rattle.poset.proofs.Laws.{count-append, mem-count}
 use Rattle.record.specs.Layout.{kindBit, moreChildren}
-use Rattle.record.specs.Tokens.{groupToken, tokens}
-use Rattle.record.proofs.Sizes.{Small, small-left, small-right, trees-length}
+use Rattle.record.specs.Tokens.{groupToken, tokens, Small}
+use Rattle.record.proofs.Sizes.{small-left, small-right, trees-length}
 use Rattle.record.proofs.Tokens.{children-few}
 use Rattle.gangs.specs.Gangs.{joinedGangs, gangsFrom, gangCount, forestGangCount, gang, forestGang}
 use Rattle.gangs.specs.Places.{Open, shapeOf, startOf, Numbers, Rest, Around, Held, held, Stored, AllStored, toCome, groupsToCome}

@@ -16,9 +16,9 @@ use Rattle.poset.proofs.Laws.{decided, clash, eqb-true, eqb-same, keep-yes, kee
 use Rattle.poset.proofs.Sums.{sum-append}
 use Rattle.record.specs.Bits.{AllBelow}
 use Rattle.record.specs.Layout.{hoursBits, mostHours, hoursOf, moreChildren}
-use Rattle.record.specs.Tokens.{groupToken, tokens, forestTokens}
+use Rattle.record.specs.Tokens.{groupToken, tokens, forestTokens, Small}
 use Rattle.record.proofs.Entries.{hours-most}
-use Rattle.record.proofs.Sizes.{Small, kind-below}
+use Rattle.record.proofs.Sizes.{kind-below}
 use Rattle.reader.proofs.Pending.{trees-tokens}
 use Rattle.gangs.specs.Gangs.{gang}
 use Rattle.gangs.specs.Places.{Open, Held, held, toCome, Done, Begun, At, begins, ended, isLeaf, loadOf, Written, Ready}

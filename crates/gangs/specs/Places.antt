@@ -1,6 +1,5 @@
 -- Where a node stands: the groups around it, the gangs of what is to come, and what has been written.
--- For inner contracts alone: who reads the promise of fewest_gangs need not believe it, but specs/Outcome.antt. So it may cite Small, which is
--- the proofs' form of leaves that fit a record.
+-- For inner contracts alone: who reads the promise of fewest_gangs need not believe it, but specs/Outcome.antt.
 use Prim.Native.Nat.{ℕ, _+_, _*_, _≤_, _<_, max}
 use mathlib.Core.Path.{_≡_}
 use mathlib.Core.List.{List, [], _∷_, _++_, flatMap, List·Memᴰ}
@@ -10,8 +9,7 @@ use lib.ListN.{length, getD}
 use Rattle.poset.specs.Lists.{keep, sum, occurrences}
 use Rattle.poset.specs.Tree.{Kind, series, parallel, Tree, leaves, groups}
 use Rattle.record.specs.Layout.{kindBit, hoursOf}
-use Rattle.record.specs.Tokens.{tokens}
-use Rattle.record.proofs.Sizes.{Small}
+use Rattle.record.specs.Tokens.{tokens, Small}
 use Rattle.gangs.specs.Gangs.{gangCount, gang}
 use Rattle.gangs.specs.declared.numbering.Place.{Place}
 

@@ -1,5 +1,7 @@
-// Gang numbers, over a record's nodes in their order. A group that is begun and not yet left is open. The present one is a Place; the lists `shapes`,
-// `firsts` and `ends` have those around it, the outermost first.
+//! Gang numbers, over a record's nodes in their order. A group that is begun and not yet left is open. The present one is a Place; the lists `shapes`,
+//! `firsts` and `ends` have those around it, the outermost first.
+use record::wide_u8;
+use record::wide_u16;
 ghost use Prim.Native.Nat.{ℕ, _%_, _^_, _≤_, _<_, max};
 ghost use mathlib.Core.Path.{_≡_};
 ghost use mathlib.Core.Bool.{cond};
@@ -19,18 +21,6 @@ pub struct Place {
     pub shape: u8,
     pub at: u8,
     pub end: u8,
-}
-
-fn wide(x: u16) -> usize
-    ensures { λ r. ⌜ r ≡ x ⌝ }
-{
-    x as usize
-}
-
-fn number(x: u8) -> usize
-    ensures { λ r. ⌜ r ≡ x ⌝ }
-{
-    x as usize
 }
 
 fn long(x: u16) -> u32
@@ -117,7 +107,7 @@ fn taken(
 {
     if token < 256 {
         gangs[token] = place.at;
-        let g = number(place.at);
+        let g = wide_u8(place.at);
         hours[g] = hours[g] + long(jobs[token]);
         let done = Place {
             depth: place.depth,
@@ -164,7 +154,7 @@ pub fn numbered(
     };
     let mut i = 0;
     while i < count {
-        let token = wide(tokens[i]);
+        let token = wide_u16(tokens[i]);
         let on = taken(
             token,
             jobs,
@@ -178,5 +168,5 @@ pub fn numbered(
         place = on;
         i += 1;
     }
-    number(place.end)
+    wide_u8(place.end)
 }

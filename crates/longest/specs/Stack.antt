@@ -1,6 +1,5 @@
 -- The runs of trees in a row, on a stack.
--- For inner contracts alone: who reads the promise of longest_run need not believe it, but specs/Outcome.antt. So it may cite Small, which is
--- the proofs' form of leaves that fit a record.
+-- For inner contracts alone: who reads the promise of longest_run need not believe it, but specs/Outcome.antt.
 use Prim.Native.Nat.{ℕ, suc, _+_, _*_, _≤_, _<_}
 use mathlib.Core.Path.{_≡_}
 use mathlib.Core.List.{List, [], _∷_, map, flatMap, List·Memᴰ}
@@ -10,7 +9,7 @@ use Rattle.poset.specs.Areas.{padded}
 use Rattle.poset.specs.Tree.{Kind, Tree}
 use Rattle.record.specs.Bits.{AllBelow}
 use Rattle.record.specs.Layout.{mostHours}
-use Rattle.record.proofs.Sizes.{Small}
+use Rattle.record.specs.Tokens.{Small}
 use Rattle.reader.specs.Nodes.{Step, Fits}
 use Rattle.reader.specs.Parts.{Strand}
 use Rattle.longest.specs.Longest.{WorkRun, joinedRuns, longest}

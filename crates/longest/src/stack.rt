@@ -1,6 +1,7 @@
-// The longest run, over a record's nodes from the last to the first. The trees that begin at the nodes taken so far stand in a row; a stack
-// has the run of each, the first on top. A run is its total, its first and its last job, and the jobs between by a list of next jobs.
+//! The longest run, over a record's nodes from the last to the first. The trees that begin at the nodes taken so far stand in a row; a stack
+//! has the run of each, the first on top. A run is its total, its first and its last job, and the jobs between by a list of next jobs.
 use crate::showing::job;
+use record::wide_u16;
 ghost use Prim.Native.Nat.{ℕ, _^_};
 ghost use mathlib.Core.Path.{_≡_};
 ghost use mathlib.Core.List.{List};
@@ -17,12 +18,6 @@ pub struct Run {
     pub total: u32,
     pub first: u8,
     pub last: u8,
-}
-
-fn wide(x: u16) -> usize
-    ensures { λ r. ⌜ r ≡ x ⌝ }
-{
-    x as usize
 }
 
 fn total_of(x: u16) -> u32
@@ -138,7 +133,7 @@ pub fn longest(
     while i > 0 {
         i -= 1;
         let on = taken(
-            wide(tokens[i]),
+            wide_u16(tokens[i]),
             hours,
             top,
             &mut totals,

@@ -1,4 +1,4 @@
-// Reads a sheet from standard input and prints what it gives.
+//! Reads a sheet from standard input and prints what it gives.
 use analysis::LONGEST_SHEET;
 use libc::STDIN_FILENO;
 use libc::STDOUT_FILENO;

@@ -1,4 +1,4 @@
-// Prints what each file that is named as an argument gives, a sheet or a record, to compare with the file stdout.
+//! Prints what each file that is named as an argument gives, a sheet or a record, to compare with the file stdout.
 use libc::STDOUT_FILENO;
 use printer::outcome;
 

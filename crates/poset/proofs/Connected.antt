@@ -1,17 +1,17 @@
 -- Two or more jobs that are joined both by comparability and by incomparability have an N among them.
-use Prim.Native.Nat.{ℕ, zero, suc, _<_}
+use Prim.Native.Nat.{ℕ, _<_}
 use mathlib.Core.Path.{_≡_, refl, sym, ap, subst, _∙_}
 use mathlib.Core.List.{List, [], _∷_, List·Memᴰ·head, List·Memᴰ·tail, List·Memᴰ·cases-cons, List·Memᴰ·eq-of-singleton}
-use mathlib.Core.Bool.{Bool, true, false}
+use mathlib.Core.Bool.{true}
 use mathlib.Core.Logic.{_⊎_, inl, inr, ⊎-elim}
 use native.Mathlib.Omega.{arith}
 use Rattle.poset.specs.Lists.{member}
 use Rattle.poset.specs.Order.{Rel, Strict, HasN}
 use Rattle.poset.specs.Tree.{Kind, series, parallel}
-use Rattle.poset.specs.Decompose.{Block, components}
+use Rattle.poset.specs.Decompose.{Block}
 use Rattle.poset.proofs.Laws.{decided, clash, member-mem, mem-member}
 use Rattle.poset.proofs.Standing.{near, other, near-sym, near-other, near-either, near-irreflexive}
-use Rattle.poset.proofs.Forbidden.{PathOfFour, path-n}
+use Rattle.poset.proofs.Forbidden.{path-n}
 use Rattle.poset.proofs.Linked.{Linked, linked-within}
 use Rattle.poset.proofs.Components.{Of, OfBlocks, Sorted, Part, Parts, ComponentsOf, components-of}
 

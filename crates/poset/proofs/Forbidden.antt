@@ -1,10 +1,11 @@
 -- The forbidden N: four jobs in a path of comparable jobs give one, and no tree's order has one.
 use Prim.Native.Nat.{ℕ, _<_}
-use mathlib.Core.Path.{_≡_, refl, sym, _∙_}
-use mathlib.Core.Bool.{Bool, true, false, _&&_}
+use mathlib.Core.Path.{_≡_, sym, _∙_}
+use mathlib.Core.Bool.{true}
 use mathlib.Core.Logic.{_⊎_, inl, inr, ⊎-elim}
-use Rattle.poset.specs.Order.{Rel, Strict, Four, isN, NAt, HasN, comparable, incomparable}
-use Rattle.poset.specs.Tree.{Kind, series, parallel, Tree, leaf, node, Forest, last, more, Means, HasTree}
+use Rattle.poset.specs.Order.{Rel, Strict, isN, HasN, incomparable}
+use Rattle.poset.specs.Tree.{Kind, series, parallel, Tree, leaf, node, Forest, last, more, HasTree}
+use Rattle.poset.specs.Inner.{In, InForest}
 use Rattle.poset.proofs.Laws.{clash, and-left, and-right, and-intro}
 use Rattle.poset.proofs.Standing.{
   Free,
@@ -15,15 +16,10 @@ use Rattle.poset.proofs.Standing.{
   is-tied,
   near,
   other,
-  Stands,
-  isSeries,
   near-sym,
-  stands-apart,
-  stands-forth,
-  stands-back,
+  forced,
 }
-use Rattle.poset.proofs.Standing.{forced}
-use Rattle.poset.proofs.Shape.{In, InForest, InGroup, Across, Good, GoodForest}
+use Rattle.poset.proofs.Shape.{InGroup, Across, Good, GoodForest}
 use Rattle.poset.proofs.Meaning.{means-fits}
 use Rattle.poset.proofs.Linked.{stay-first, stay-rest}
 

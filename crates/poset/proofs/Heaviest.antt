@@ -12,9 +12,10 @@ use lib.Dec.{ltb}
 use Rattle.poset.specs.Lists.{exists, member, occurrences, sum}
 use Rattle.poset.specs.Order.{Rel}
 use Rattle.poset.specs.Tree.{Kind, series, parallel, Tree, leaf, node, Forest, last, more, leaves, forestLeaves}
+use Rattle.poset.specs.Inner.{In, InForest}
 use Rattle.poset.proofs.Laws.{decided, clash, false-unless, any-found, any-miss, ltb-true, lt-true, member-mem}
 use Rattle.poset.proofs.Standing.{near, other, Stands, near-sym, stands-near, stands-apart, stands-differ}
-use Rattle.poset.proofs.Shape.{In, InForest, InGroup, leaves-in, forestLeaves-in, in-leaves, Across, Good, GoodForest}
+use Rattle.poset.proofs.Shape.{InGroup, leaves-in, forestLeaves-in, in-leaves, Across, Good, GoodForest}
 use Rattle.poset.proofs.Sums.{sum-append, sum-zero}
 use Rattle.poset.proofs.Distinct.{Distinct, distinct-cons, subset-sum}
 

@@ -9,6 +9,7 @@ use Rattle.poset.specs.Lists.{keep, member}
 use Rattle.poset.specs.Order.{Rel, Strict}
 use Rattle.poset.specs.Tree.{Kind, series, parallel}
 use Rattle.poset.specs.Decompose.{Block, components, placed, arranged, sorted, comesFirst, parts}
+use Rattle.poset.specs.Inner.{Each, Pairs}
 use Rattle.poset.proofs.Laws.{decided, clash, false-unless, member-mem, mem-member, keep-yes, keep-not, keep-mem, mem-keep}
 use Rattle.poset.proofs.Sums.{length-keep-lt}
 use Rattle.poset.proofs.Standing.{near, other, Free, Stands, near-sym, free, forced}
@@ -23,19 +24,10 @@ head-in (x ∷ xs) u p = List·Memᴰ·head refl
 
 -- lists of blocks
 
-abbrev pub Each {ℓ} : (Block → Type ℓ) → List Block → Type ℓ
-Each P [] = Unit {ℓ}
-Each P (b ∷ bs) = P b × Each P bs
-
 -- each job of a block stands to those of later blocks as in a group of this kind
 abbrev pub Laid : Kind → Rel → List Block → Type 0
 Laid k r [] = Unit {0}
 Laid k r (b ∷ bs) = ((u v : ℕ) → Of b u → OfBlocks bs v → Stands k r u v) × Laid k r bs
-
--- each two blocks, in this order, stand so
-abbrev pub Pairs {ℓ} : (Block → Block → Type ℓ) → List Block → Type ℓ
-Pairs P [] = Unit {ℓ}
-Pairs P (b ∷ bs) = Each (P b) bs × Pairs P bs
 
 -- each block of a parallel group comes ahead of the next one
 abbrev pub Before : Kind → Rel → Block → Block → Type 0

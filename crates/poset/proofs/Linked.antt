@@ -1,13 +1,14 @@
 -- Connected sets of jobs, with no paths: whatever near jobs share, all share.
 use Prim.Native.Nat.{ℕ}
 use mathlib.Core.Path.{_≡_, refl, sym, subst, _∙_}
-use mathlib.Core.Bool.{Bool, true, false}
-use mathlib.Core.Logic.{_⊎_, inl, inr, ⊎-elim}
+use mathlib.Core.Bool.{true}
+use mathlib.Core.Logic.{_⊎_, inl, inr}
 use Rattle.poset.specs.Order.{Rel}
-use Rattle.poset.specs.Tree.{Kind, series, parallel, Tree, leaf, node, Forest, last, more, alternates}
+use Rattle.poset.specs.Tree.{Kind, series, parallel, Tree, leaf, node, Forest, alternates}
+use Rattle.poset.specs.Inner.{In, InForest}
 use Rattle.poset.proofs.Laws.{clash}
-use Rattle.poset.proofs.Standing.{near, other, Stands, near-sym, stands-near, stands-apart}
-use Rattle.poset.proofs.Shape.{In, InForest, someIn, someInForest, Across, Good, GoodForest}
+use Rattle.poset.proofs.Standing.{near, other, near-sym, stands-near, stands-apart}
+use Rattle.poset.proofs.Shape.{someIn, someInForest, Across, Good}
 
 -- a labelling that near jobs of S share
 abbrev pub Shared : Rel → (ℕ → Type 0) → (ℕ → Type 0) → Type 0

@@ -1,14 +1,14 @@
 -- A tree means an order exactly when its groups say how each pair stands in it and its jobs are those below n.
-use Prim.Native.Nat.{ℕ, zero, suc, _+_, _≤_, _<_}
+use Prim.Native.Nat.{ℕ, _+_, _≤_, _<_}
 use mathlib.Core.Path.{_≡_, refl, sym, ap, ap₂, subst, _∙_}
 use mathlib.Core.List.{[], _∷_, _++_}
-use mathlib.Core.Bool.{Bool, true, false, cond}
+use mathlib.Core.Bool.{true, false, cond}
 use mathlib.Core.Logic.{_⊎_, inl, inr, ⊎-elim}
 use native.Mathlib.Nat.{eq-zero-or-pos}
 use lib.Dec.{eqb, ltb}
 use native.Mathlib.Omega.{arith}
 use Rattle.poset.specs.Lists.{occurrences}
-use Rattle.poset.specs.Order.{Rel, Strict}
+use Rattle.poset.specs.Order.{Rel}
 use Rattle.poset.specs.Tree.{
   Kind,
   series,
@@ -26,19 +26,15 @@ use Rattle.poset.specs.Tree.{
   Spans,
   Means,
 }
+use Rattle.poset.specs.Inner.{In, InForest, Once, OnceForest, Apart}
 use Rattle.poset.proofs.Laws.{clash, decided, ltb-true, lt-true, eqb-true, eqb-same}
 use Rattle.poset.proofs.Laws.{count-same, count-other, count-zero, count-mem, mem-count, count-append}
-use Rattle.poset.proofs.Standing.{Stands, Free, stands-forth, stands-back}
+use Rattle.poset.proofs.Standing.{stands-forth, stands-back}
 use Rattle.poset.proofs.Shape.{
-  In,
-  InForest,
   in-leaves,
   in-forestLeaves,
   leaves-in,
   forestLeaves-in,
-  Once,
-  OnceForest,
-  Apart,
   Across,
   Good,
   GoodForest,

@@ -10,19 +10,15 @@ use Rattle.poset.specs.Lists.{exists, member, occurrences, aheadIn}
 use Rattle.poset.specs.Order.{Rel}
 use Rattle.poset.specs.Tree.{Kind, series, parallel, Tree, leaf, node, Forest, last, more, Spans, Means}
 use Rattle.poset.specs.Tree.{leaves, forestLeaves, joined, reversed, forestReversed, precedes, forestPrecedes}
+use Rattle.poset.specs.Inner.{In, InForest, Once, OnceForest, Apart}
 use Rattle.poset.proofs.Laws.{and-left, and-right, and-intro, eqb-same, count-append, same-count-mem}
 use Rattle.poset.proofs.Ahead.{ahead-here, ahead-left, ahead-right, ahead-cross, ahead-back}
 use Rattle.poset.proofs.Standing.{isSeries}
 use Rattle.poset.proofs.Shape.{
-  In,
-  InForest,
   in-leaves,
   in-forestLeaves,
   leaves-in,
   forestLeaves-in,
-  Once,
-  OnceForest,
-  Apart,
   group,
   group-left,
   group-right,

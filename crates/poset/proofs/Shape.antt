@@ -1,6 +1,6 @@
 -- What a tree says, by recursion over it: which jobs it holds, that it holds each once, and how the jobs of two of its children stand.
 -- A group is a first child t and a forest f of the others, and so is a forest of two or more: what holds of one holds of both.
-use Prim.Native.Nat.{ℕ, _+_}
+use Prim.Native.Nat.{ℕ}
 use mathlib.Core.Path.{_≡_, refl, sym, ap, _∙_}
 use mathlib.Core.List.{List, _++_, flatMap, append-nil, List·Memᴰ, List·Memᴰ·head, List·Memᴰ·eq-of-singleton}
 use mathlib.Core.List.{Memᴰ·append-left, Memᴰ·append-right, List·Memᴰ·append-cases}
@@ -10,19 +10,9 @@ use Rattle.poset.specs.Lists.{member}
 use Rattle.poset.specs.Order.{Rel}
 use Rattle.poset.specs.Tree.{Kind, series, parallel, Tree, leaf, node, Forest, last, more}
 use Rattle.poset.specs.Tree.{trees, leaves, forestLeaves, across, precedes, forestPrecedes}
+use Rattle.poset.specs.Inner.{In, InForest, Once, OnceForest, Apart}
 use Rattle.poset.proofs.Standing.{Stands, isSeries, stands-differ}
 use Rattle.poset.proofs.Laws.{clash, false-unless, and-left, and-right, and-intro, or-cases, or-left, or-middle, or-last, member-mem, mem-member}
-
--- the jobs of a tree
-
-abbrev mutual
-  pub In : Tree → ℕ → Type 0
-  In (leaf j) u = u ≡ j
-  In (node k t f) u = In t u ⊎ InForest f u
-
-  pub InForest : Forest → ℕ → Type 0
-  InForest (last t) u = In t u
-  InForest (more t f) u = In t u ⊎ InForest f u
 
 -- the jobs of a group, by its first child and the others
 abbrev pub InGroup : Tree → Forest → ℕ → Type 0
@@ -86,20 +76,6 @@ someIn (node k t f) = let s = someIn t in (s .0, inl (s .1))
 pub someInForest : (f : Forest) → (u : ℕ) × InForest f u
 someInForest (last t) = someIn t
 someInForest (more t f) = let s = someIn t in (s .0, inl (s .1))
-
--- each job once
-
-abbrev pub Apart : Tree → Forest → Type 0
-Apart t f = (u : ℕ) → In t u → InForest f u → ⊥
-
-abbrev mutual
-  pub Once : Tree → Type 0
-  Once (leaf j) = Unit {0}
-  Once (node k t f) = Once t × OnceForest f × Apart t f
-
-  pub OnceForest : Forest → Type 0
-  OnceForest (last t) = Once t
-  OnceForest (more t f) = Once t × OnceForest f × Apart t f
 
 -- each pair across two children stands as the kind says
 

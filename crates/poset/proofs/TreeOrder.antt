@@ -5,9 +5,10 @@ use mathlib.Core.Bool.{true, false}
 use mathlib.Core.Logic.{_⊎_, inl, inr, ⊎-elim}
 use Rattle.poset.specs.Order.{Rel, Strict}
 use Rattle.poset.specs.Tree.{Kind, Tree, leaf, node, Forest, last, more, Means}
+use Rattle.poset.specs.Inner.{In, InForest}
 use Rattle.poset.proofs.Laws.{clash}
 use Rattle.poset.proofs.Standing.{stands-forth, stands-back}
-use Rattle.poset.proofs.Shape.{In, InForest, Across, Good, GoodForest}
+use Rattle.poset.proofs.Shape.{Across, Good, GoodForest}
 use Rattle.poset.proofs.Meaning.{means-fits}
 
 mutual

@@ -1,1 +1,1 @@
-// Definitions and theorems alone: see specs/ and proofs/Theorems.antt.
+//! Definitions and theorems alone: see specs/ and proofs/Theorems.antt.

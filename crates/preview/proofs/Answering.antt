@@ -5,7 +5,7 @@ use mathlib.Core.List.{List}
 use mathlib.Core.Option.{some}
 use lib.ListN.{length}
 use Rattle.poset.specs.Order.{Rel, Strict, covers, pairsOf}
-use Rattle.poset.specs.Tree.{Tree, groups}
+use Rattle.poset.specs.Tree.{Tree}
 use Rattle.poset.specs.Decompose.{treeOf}
 use Rattle.poset.proofs.Theorems.{tree-of-sound}
 use Rattle.relation.specs.Table.{holds}

@@ -10,7 +10,8 @@ use lib.Pow.{pow-pos}
 use Rattle.poset.specs.Tree.{Kind, series, parallel, Tree, leaves}
 use Rattle.record.specs.Bits.{AllBelow, bits}
 use Rattle.record.specs.Layout.{hoursBits, leafBits, kindBit, treeBits}
-use Rattle.record.proofs.Sizes.{Small, groups-lt, forest-groups, kind-below, length-treeBits}
+use Rattle.record.specs.Tokens.{Small}
+use Rattle.record.proofs.Sizes.{groups-lt, forest-groups, kind-below, length-treeBits}
 use Rattle.reader.specs.Fields.{At, FieldAt, NodeAt, header}
 use Rattle.reader.proofs.Windows.{halves, high-part}
 use Rattle.reader.proofs.Inversion.{only-group}

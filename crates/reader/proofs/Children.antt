@@ -8,9 +8,9 @@ use native.Mathlib.Omega.{arith}
 use lib.ListN.{length, set, length-append, length-set}
 use lib.Seq.{sets, getD-set-other}
 use Rattle.poset.specs.Tree.{Kind, series, parallel, Tree, Forest, last, more, leaves, forestLeaves, joined, reversed, least, groups, ahead}
+use Rattle.poset.specs.Inner.{OnceForest, firstOf, CanonForest}
 use Rattle.poset.proofs.Laws.{decided, clash, same-count-mem}
-use Rattle.poset.proofs.Shape.{OnceForest, leaves-in, forestLeaves-in}
-use Rattle.poset.proofs.Canonical.{firstOf, CanonForest}
+use Rattle.poset.proofs.Shape.{leaves-in, forestLeaves-in}
 use Rattle.poset.proofs.Ranks.{ranked}
 use Rattle.poset.proofs.Realizer.{reversed-count}
 use Rattle.record.specs.Bits.{AllBelow, bitsOf}

@@ -14,9 +14,9 @@ use Rattle.poset.proofs.Meaning.{spans-holds, once-count}
 use Rattle.record.specs.Bits.{AllBelow}
 use Rattle.record.specs.Layout.{hoursBits, hoursOf, IsRecord}
 use Rattle.record.specs.Decode.{decode}
-use Rattle.record.specs.Tokens.{tokens, listing, nodeRoom}
+use Rattle.record.specs.Tokens.{tokens, listing, nodeRoom, Small}
 use Rattle.record.proofs.Entries.{entry-padded, padded-below}
-use Rattle.record.proofs.Sizes.{Small, spans-small}
+use Rattle.record.proofs.Sizes.{spans-small}
 use Rattle.record.proofs.Theorems.{layout-decode}
 use Rattle.reader.specs.Answer.{nodes}
 use Rattle.reader.specs.Nodes.{Listed}

@@ -9,9 +9,10 @@ use Rattle.poset.specs.Tree.{Kind, series, parallel, Tree, leaf, node, Forest, 
 use Rattle.record.specs.Bits.{AllBelow, bits}
 use Rattle.record.specs.Layout.{hoursBits, kindBit, moreChildren, hoursOf, treeBits, forestBits}
 use Rattle.record.specs.Decode.{readTree}
+use Rattle.record.specs.Tokens.{Small}
 use Rattle.record.proofs.Below.{below-head}
 use Rattle.record.proofs.Fields.{length-bits}
-use Rattle.record.proofs.Sizes.{Small, groups-lt, forest-groups}
+use Rattle.record.proofs.Sizes.{groups-lt, forest-groups}
 use Rattle.record.proofs.Reading.{read-tree}
 use Rattle.reader.specs.Fields.{At, leafFields, header}
 use Rattle.reader.proofs.Positions.{at-left, at-right, at-same, bits-injective}

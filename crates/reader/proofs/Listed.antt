@@ -10,10 +10,10 @@ use lib.Seq.{drop-cons, append-snoc}
 use Rattle.poset.specs.Tree.{Tree, leaves}
 use Rattle.record.specs.Bits.{bits, bitsOf}
 use Rattle.record.specs.Layout.{hoursBits, leafBits, recordRoom, hoursOf}
-use Rattle.record.specs.Tokens.{tokens, fieldBits, nodeRoom, listing}
+use Rattle.record.specs.Tokens.{tokens, fieldBits, nodeRoom, listing, Small}
 use Rattle.record.proofs.Fields.{length-bits, bits-snoc}
 use Rattle.record.proofs.Bytes.{length-bitsOf}
-use Rattle.record.proofs.Sizes.{Small, spans-small}
+use Rattle.record.proofs.Sizes.{spans-small}
 use Rattle.record.proofs.Theorems.{layout-length}
 use Rattle.record.proofs.Tokens.{leaf-is, group-bits, leaf-length, group-length, token-bits, tokens-few, IsToken, tokens-are}
 use Rattle.reader.specs.Fields.{At, FieldAt}

@@ -11,7 +11,7 @@ use lib.ListN.{length, getD, set, length-append, length-set}
 use lib.Seq.{sets, getD-set-same, getD-set-other}
 use Rattle.poset.specs.Tree.{Kind}
 use Rattle.poset.proofs.Laws.{decided, clash, eqb-true, eqb-same}
-use Rattle.record.proofs.Sizes.{Small}
+use Rattle.record.specs.Tokens.{Small}
 use Rattle.reader.specs.Parts.{Piece, Lists, marked, Free, Placed}
 use Rattle.reader.specs.declared.parts.Part.{Part}
 use Rattle.reader.proofs.Pieces.{both}

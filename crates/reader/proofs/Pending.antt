@@ -10,8 +10,8 @@ use Rattle.poset.specs.Tree.{Kind, Tree, leaf, node, Forest, last, more, leaves
 use Rattle.poset.proofs.Laws.{count-append, flatMap-append}
 use Rattle.poset.proofs.Shape.{trees-row, trees-leaves}
 use Rattle.record.specs.Layout.{moreChildren}
-use Rattle.record.specs.Tokens.{tokens, forestTokens, nodeRoom}
-use Rattle.record.proofs.Sizes.{Small, small-left, small-right, groups-lt}
+use Rattle.record.specs.Tokens.{tokens, forestTokens, nodeRoom, Small}
+use Rattle.record.proofs.Sizes.{small-left, small-right, groups-lt}
 use Rattle.record.proofs.Tokens.{tokens-few, children-few}
 use Rattle.reader.specs.Nodes.{Listed, Step, one-leaf, one-group, Fits}
 

@@ -9,9 +9,9 @@ use lib.ListN.{length}
 use Rattle.poset.specs.Lists.{occurrences}
 use Rattle.poset.specs.Tree.{Kind, series, parallel, Tree, node, Forest, last, more, leaves, forestLeaves, joined, reversed, least, groups}
 use Rattle.poset.specs.Tree.{alternates, outranks, ahead}
+use Rattle.poset.specs.Inner.{Once, OnceForest, firstOf, Canon, CanonForest}
 use Rattle.poset.proofs.Laws.{same-count-mem}
-use Rattle.poset.proofs.Shape.{Once, OnceForest, in-leaves, in-forestLeaves, forestLeaves-in}
-use Rattle.poset.proofs.Canonical.{firstOf, Canon, CanonForest}
+use Rattle.poset.proofs.Shape.{in-leaves, in-forestLeaves, forestLeaves-in}
 use Rattle.poset.proofs.Meaning.{once-count}
 use Rattle.poset.proofs.Realizer.{reversed-count, forestReversed-count}
 use Rattle.record.specs.Layout.{moreChildren, hoursOf, treeBits}

@@ -1,6 +1,5 @@
 -- Bits by position.
--- For inner contracts alone: who reads the promises of read_record, read_nodes and order_of need not believe it, but specs/Answer.antt. So it may cite
--- Small, which is the proofs' form of leaves that fit a record.
+-- For inner contracts alone: who reads the promises of read_record, read_nodes and order_of need not believe it, but specs/Answer.antt.
 use Prim.Native.Nat.{ℕ, suc, _+_, _-_, _≤_, _<_, _^_}
 use mathlib.Core.Path.{_≡_}
 use mathlib.Core.List.{List, _∷_, _++_}
@@ -9,7 +8,7 @@ use lib.ListN.{length, drop}
 use Rattle.poset.specs.Tree.{Kind, Tree, leaves}
 use Rattle.record.specs.Bits.{AllBelow, bits}
 use Rattle.record.specs.Layout.{hoursBits, leafBits, kindBit, treeBits}
-use Rattle.record.proofs.Sizes.{Small}
+use Rattle.record.specs.Tokens.{Small}
 use Rattle.reader.specs.declared.nodes.Node.{Node}
 
 -- the list xs stands in bs from the position `at` on

@@ -1,6 +1,6 @@
 -- A record by the nodes of its tree.
 -- For inner contracts alone, here and in the crates above: who reads the promises of read_record, read_nodes and order_of need not believe it, but
--- specs/Answer.antt. So it may cite Small, which is the proofs' form of leaves that fit a record.
+-- specs/Answer.antt.
 use Prim.Native.Nat.{ℕ, _≤_}
 use mathlib.Core.Path.{_≡_}
 use mathlib.Core.List.{List, _∷_, _++_, flatMap}
@@ -8,8 +8,7 @@ use lib.ListN.{length, take}
 use Rattle.poset.specs.Lists.{occurrences}
 use Rattle.poset.specs.Tree.{Kind, Tree, leaf, node, Forest, leaves, trees}
 use Rattle.record.specs.Layout.{moreChildren, IsRecord}
-use Rattle.record.specs.Tokens.{groupToken, tokens}
-use Rattle.record.proofs.Sizes.{Small}
+use Rattle.record.specs.Tokens.{groupToken, tokens, Small}
 
 -- the bytes are a record of this tree, which has so many nodes
 pub record HasNodes (bytes : List ℕ) (count : ℕ) (t : Tree) : Type 0 where

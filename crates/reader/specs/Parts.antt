@@ -1,6 +1,5 @@
 -- What the readers of a record's parts owe: of a tree, and of the children of a group.
--- For inner contracts alone: who reads the promises of read_record, read_nodes and order_of need not believe it, but specs/Answer.antt. So it may cite
--- Once and Canon, which are the proofs' form of what poset's specs/ say by a count and a test.
+-- For inner contracts alone: who reads the promises of read_record, read_nodes and order_of need not believe it, but specs/Answer.antt.
 use Prim.Native.Nat.{ℕ, zero, suc, _+_, _*_, _^_, _≤_, _<_, min}
 use mathlib.Core.Path.{_≡_}
 use mathlib.Core.List.{List, [], _∷_, List·Memᴰ}
@@ -9,8 +8,7 @@ use lib.ListN.{length, getD, set}
 use lib.Seq.{sets}
 use Rattle.poset.specs.Tree.{Kind, series, parallel, Tree, Forest, alternates}
 use Rattle.poset.specs.Tree.{leaves, forestLeaves, reversed, forestReversed, least, forestLeast, groups, forestGroups}
-use Rattle.poset.proofs.Shape.{Once, OnceForest}
-use Rattle.poset.proofs.Canonical.{Canon, CanonForest}
+use Rattle.poset.specs.Inner.{Once, OnceForest, Canon, CanonForest}
 use Rattle.record.specs.Bits.{AllBelow}
 use Rattle.record.specs.Layout.{hoursBits, leafBits, recordRoom, moreChildren, hoursOf, treeBits, forestBits}
 use Rattle.reader.specs.Fields.{At}

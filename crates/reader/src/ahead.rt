@@ -1,5 +1,5 @@
-// The order of two sequences: one job is before another where it stands ahead of it in both.
-use crate::nodes::wide;
+//! The order of two sequences: one job is before another where it stands ahead of it in both.
+use record::wide_u8;
 use relation::set;
 ghost use Prim.Native.Nat.{ℕ, _≤_};
 ghost use mathlib.Core.Path.{_≡_};
@@ -20,7 +20,7 @@ fn later(list: &[u8; 128], n: usize) -> [[u64; 2]; 128]
     let mut i = n;
     while i > 0 {
         i -= 1;
-        let job = wide(list[i]);
+        let job = wide_u8(list[i]);
         rows[job] = passed;
         let more = set::union(passed, set::only(job));
         passed = more;
@@ -42,7 +42,7 @@ pub fn order_of(forward: &[u8; 128], reverse: &[u8; 128], n: usize) -> [[u64; 2]
     let mut i = n;
     while i > 0 {
         i -= 1;
-        let job = wide(reverse[i]);
+        let job = wide_u8(reverse[i]);
         rows[job] = set::intersection(rows[job], passed);
         let more = set::union(passed, set::only(job));
         passed = more;

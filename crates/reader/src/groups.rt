@@ -1,8 +1,7 @@
-// The readers of groups. Inside a series group (document 01: a chain) stand leaves and parallel groups, inside a parallel
-// group (a side group) leaves and series groups, so the two readers call each other, each over a reader of one child; from the one
-// reader to the other the bits left fall. A record has fewer groups than jobs, so reading stops at a group too many.
+//! The readers of groups. Inside a series group (document 01: a chain) stand leaves and parallel groups, inside a parallel
+//! group (a side group) leaves and series groups, so the two readers call each other, each over a reader of one child; from the one
+//! reader to the other the bits left fall. A record has fewer groups than jobs, so reading stops at a group too many.
 use crate::nodes::node_at;
-use crate::nodes::wide;
 use crate::parts::Part;
 use crate::parts::chained;
 use crate::parts::leaf;
@@ -10,6 +9,7 @@ use crate::parts::outranks;
 use crate::parts::refused;
 use crate::parts::sided;
 use crate::parts::unread;
+use record::wide_u8;
 ghost use Prim.Native.Nat.{_<_};
 ghost use mathlib.Core.Path.{_≡_};
 ghost use Rattle.poset.specs.Tree.{series, parallel};
@@ -20,7 +20,7 @@ ghost use Rattle.reader.specs.Parts.{place, Ready, TreeRead, ChildRead, 
 pub fn place(done: u8, groups: u8) -> usize
     ensures { λ r. ⌜ r ≡ place done groups ⌝ }
 {
-    7 + record::LEAF_BITS * wide(done) + 9 * wide(groups)
+    7 + record::LEAF_BITS * wide_u8(done) + 9 * wide_u8(groups)
 }
 
 // `more` + 1 children of a chain.

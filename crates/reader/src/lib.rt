@@ -1,4 +1,4 @@
-// A record read back: its job count, groups, sequences and hours, or its nodes, or that the bytes are no record; and the order of the sequences.
+//! A record read back: its job count, groups, sequences and hours, or its nodes, or that the bytes are no record; and the order of the sequences.
 pub mod ahead;
 mod groups;
 mod listing;
@@ -10,11 +10,11 @@ use groups::tree;
 use listing::list_nodes;
 use nodes::field;
 use nodes::filled;
-use nodes::wide;
 use parts::Part;
 use parts::refused;
 use record::NODE_ROOM;
 use record::RECORD_ROOM;
+use record::wide_u8;
 ghost use mathlib.Core.Path.{_≡_};
 ghost use Prim.Native.Nat.{_≤_};
 ghost use mathlib.Core.Option.{none};
@@ -58,7 +58,7 @@ fn in_turn(next: &[u8; 128], first: usize, count: usize) -> [u8; 128]
     let mut job = first;
     for i in 0..count {
         jobs[i] = job as u8;
-        job = wide(next[job]);
+        job = wide_u8(next[job]);
     }
     jobs
 }

@@ -1,4 +1,4 @@
-// The nodes of a record in their order.
+//! The nodes of a record in their order.
 use crate::nodes::field;
 use record::LEAF_BITS;
 use record::NODE_ROOM;

@@ -1,4 +1,5 @@
-// The bit fields of a record.
+//! The bit fields of a record.
+use record::wide_u8;
 ghost use mathlib.Core.Path.{_≡_};
 ghost use Prim.Native.Nat.{_+_, _*_, _≤_, _<_};
 ghost use lib.ListN.{length, drop};
@@ -15,18 +16,12 @@ pub struct Node {
     pub hours: u16,
 }
 
-pub fn wide(x: u8) -> usize
-    ensures { λ r. ⌜ (r ≡ x) × (r < 256) ⌝ }
-{
-    x as usize
-}
-
 // The number in two bytes.
 fn pair(bytes: &[u8], i: usize) -> usize
     requires { ⌜ (i + 2 ≤ length (now bytes)) × (length (now bytes) ≤ recordRoom) ⌝ }
     ensures { λ r. ⌜ FieldAt (bitsOf (now (bytes .entry))) (8 * i) 16 r ⌝ }
 {
-    wide(bytes[i]) * 256 + wide(bytes[i + 1])
+    wide_u8(bytes[i]) * 256 + wide_u8(bytes[i + 1])
 }
 
 // The number in the `width` bits from `at` on, of at most 9 bits: two bytes hold them.
@@ -37,7 +32,7 @@ pub fn field(bytes: &[u8], at: usize, width: usize) -> usize
     let i = at / 8;
     let end = at % 8 + width;
     if end <= 8 {
-        return (wide(bytes[i]) >> (8 - end)) % (1usize << width);
+        return (wide_u8(bytes[i]) >> (8 - end)) % (1usize << width);
     }
     (pair(bytes, i) >> (16 - end)) % (1usize << width)
 }
@@ -59,7 +54,7 @@ fn leaf_at(bytes: &[u8], at: usize) -> usize
     if 8 * bytes.len() < at + record::LEAF_BITS {
         return 1usize << (record::LEAF_BITS - 1);
     }
-    let three = pair(bytes, i) * 256 + wide(bytes[i + 2]);
+    let three = pair(bytes, i) * 256 + wide_u8(bytes[i + 2]);
     (three >> (24 - end)) % (1usize << record::LEAF_BITS)
 }
 

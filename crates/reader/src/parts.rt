@@ -1,4 +1,4 @@
-// Parts of a record: what is read of a tree or of the children of a group, and the work lists beside it.
+//! Parts of a record: what is read of a tree or of the children of a group, and the work lists beside it.
 use crate::nodes::Node;
 ghost use mathlib.Core.Path.{_≡_};
 ghost use mathlib.Core.Bool.{true};

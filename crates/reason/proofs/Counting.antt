@@ -9,8 +9,8 @@ use Rattle.poset.specs.Tree as Tree
 use Rattle.poset.specs.Tree.{Kind, Tree, leaf, node, Forest, leaves, forestLeaves}
 use Rattle.poset.proofs.Shape.{trees-leaves}
 use Rattle.record.specs.Layout.{moreChildren}
-use Rattle.record.specs.Tokens.{groupToken, tokens}
-use Rattle.record.proofs.Sizes.{Small, small-left, small-right, kind-below, groups-lt, trees-length}
+use Rattle.record.specs.Tokens.{groupToken, tokens, Small}
+use Rattle.record.proofs.Sizes.{small-left, small-right, kind-below, groups-lt, trees-length}
 use Rattle.record.proofs.Tokens.{tokens-length, children-few}
 use Rattle.reader.proofs.Pending.{trees-tokens, children-row, row-length}
 use Rattle.reason.specs.Rows.{Ahead}

@@ -12,8 +12,9 @@ use lib.ListN.{length, length-append, length-map, getElem?, drop}
 use Rattle.poset.specs.Lists.{member, onlyIf}
 use Rattle.poset.specs.Order.{Rel}
 use Rattle.poset.specs.Tree.{Kind, Tree, leaf, node, Forest, last, more, leaves, forestLeaves, groups}
+use Rattle.poset.specs.Inner.{In, InForest, Once, OnceForest, Apart}
 use Rattle.poset.proofs.Laws.{decided, clash, false-unless, and-left, and-right, and-intro, member-mem, mem-member, found-clash, flatMap-append}
-use Rattle.poset.proofs.Shape.{In, InForest, in-leaves, leaves-in, Once, OnceForest, Apart, Good, GoodForest}
+use Rattle.poset.proofs.Shape.{in-leaves, leaves-in, Good, GoodForest}
 use Rattle.record.specs.Bits.{bits, bytesOf}
 use Rattle.record.specs.Layout.{kindBit, moreChildren, treeBits, forestBits, layout, IsRecord}
 use Rattle.record.specs.Tokens.{groupToken, tokens, forestTokens}

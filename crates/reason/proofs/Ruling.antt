@@ -11,11 +11,12 @@ use lib.ListN.{getElem?, drop}
 use Rattle.poset.specs.Lists.{member, aheadIn}
 use Rattle.poset.specs.Order.{Rel}
 use Rattle.poset.specs.Tree.{Kind, series, parallel, Tree, leaf, node, Forest, last, more, trees, leaves, forestLeaves}
+use Rattle.poset.specs.Inner.{In, InForest}
 use Rattle.poset.proofs.Laws.{clash, false-unless, ltb-true, lt-true, member-mem, mem-member, mem-count, count-append, flatMap-mem, found-clash}
 use Rattle.poset.proofs.Ahead.{ahead-right, ahead-cross, ahead-back}
 use Rattle.poset.proofs.Distinct.{Distinct}
 use Rattle.poset.proofs.Standing.{Stands, Free, free, is-free, free-sym, stands-differ}
-use Rattle.poset.proofs.Shape.{In, InForest, in-leaves, leaves-in, in-forestLeaves, forestLeaves-in, trees-leaves, Good, GoodForest, goodForest-once}
+use Rattle.poset.proofs.Shape.{in-leaves, leaves-in, in-forestLeaves, forestLeaves-in, trees-leaves, Good, GoodForest, goodForest-once}
 use Rattle.reason.specs.Claims.{IsRule, LowestAt}
 use Rattle.reason.specs.Lowest.{preorder, forestPreorder, over, childOf, rule}
 use Rattle.reason.proofs.Lowest.{element-mem, tree-first, stands-node, node-good, over-in, in-over, NoneOver}

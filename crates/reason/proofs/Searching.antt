@@ -1,5 +1,5 @@
 -- The nodes taken from the last to the first: the first node that is over both jobs is the lowest one.
-use Prim.Native.Nat.{ℕ, zero, suc, _+_, _-_, _≤_, _<_}
+use Prim.Native.Nat.{ℕ, zero, suc, _-_, _≤_, _<_}
 use mathlib.Core.Path.{_≡_, refl, sym, ap, subst, _∙_}
 use mathlib.Core.Bool.{Bool, true, false, _&&_, _||_, cond}
 use mathlib.Core.List.{List, [], _∷_, _++_, flatMap, append-nil, append-assoc, List·Memᴰ, List·Memᴰ·head}
@@ -21,8 +21,8 @@ use Rattle.poset.proofs.Ahead.{ahead-left}
 use Rattle.poset.proofs.Meaning.{spans-holds, means-fits}
 use Rattle.poset.proofs.Shape.{Good, trees-row}
 use Rattle.record.specs.Layout.{kindBit}
-use Rattle.record.specs.Tokens.{tokens}
-use Rattle.record.proofs.Sizes.{Small, small-left}
+use Rattle.record.specs.Tokens.{tokens, Small}
+use Rattle.record.proofs.Sizes.{small-left}
 use Rattle.record.proofs.Tokens.{children-few}
 use Rattle.reader.specs.Nodes.{Step, one-leaf, one-group, Fits}
 use Rattle.reader.proofs.Pending.{spells, pending, pending-end, pending-drop, trees-tokens, children-row, row-step, row-fits, nodes-few}

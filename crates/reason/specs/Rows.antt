@@ -1,6 +1,5 @@
 -- What is known of two jobs in a row of trees, and the trees from a node on.
--- For inner contracts alone: who reads the promise of reason_between need not believe it, but specs/Outcome.antt. So it may cite Small, which is
--- the proofs' form of leaves that fit a record.
+-- For inner contracts alone: who reads the promise of reason_between need not believe it, but specs/Outcome.antt.
 use Prim.Native.Nat.{ℕ, suc, _+_, _≤_, _<_}
 use mathlib.Core.Path.{_≡_}
 use mathlib.Core.Bool.{Bool, _||_, cond}
@@ -9,8 +8,7 @@ use lib.Dec.{eqb, ltb}
 use lib.ListN.{length, drop}
 use Rattle.poset.specs.Lists.{member, aheadIn}
 use Rattle.poset.specs.Tree.{Tree, Spans, leaves}
-use Rattle.record.specs.Tokens.{tokens, nodeRoom}
-use Rattle.record.proofs.Sizes.{Small}
+use Rattle.record.specs.Tokens.{tokens, nodeRoom, Small}
 use Rattle.reader.specs.Nodes.{Listed, Step, Fits}
 use Rattle.reason.specs.Lowest.{rule}
 use Rattle.reason.specs.Claims.{LowestAt}

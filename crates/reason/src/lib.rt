@@ -2,7 +2,7 @@
 mod seeking;
 
 use analysis::Verdict;
-use seeking::wide;
+use record::wide_u16;
 ghost use mathlib.Core.Path.{_≡_};
 ghost use Rattle.reason.specs.Outcome.{reasonOutcome, Shows};
 
@@ -30,8 +30,8 @@ fn turned_away(verdict: Verdict) -> Reason
 pub fn reason_between(bytes: &[u8], first: u16, second: u16) -> Reason
     ensures { λ r. ⌜ Shows (reasonOutcome (now (bytes .entry)) first second) r ⌝ }
 {
-    let u = wide(first);
-    let v = wide(second);
+    let u = wide_u16(first);
+    let v = wide_u16(second);
     let read = reader::read_nodes(bytes);
     if !read.ok {
         return turned_away(Verdict::NoRecord);

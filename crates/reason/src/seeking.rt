@@ -1,5 +1,6 @@
-// The lowest node over two jobs, over a record's nodes from the last to the first. The nodes taken so far are trees in a row; the one taken last begins
-// the first of them, which is over both jobs exactly where the row has both and the trees after it have neither.
+//! The lowest node over two jobs, over a record's nodes from the last to the first. The nodes taken so far are trees in a row; the one taken last begins
+//! the first of them, which is over both jobs exactly where the row has both and the trees after it have neither.
+use record::wide_u16;
 ghost use Prim.Native.Nat.{min};
 ghost use mathlib.Core.Path.{_≡_};
 ghost use mathlib.Core.Bool.{cond};
@@ -22,12 +23,6 @@ pub struct Row {
 pub struct Decision {
     pub rule: usize,
     pub position: usize,
-}
-
-pub fn wide(x: u16) -> usize
-    ensures { λ r. ⌜ r ≡ x ⌝ }
-{
-    x as usize
 }
 
 // The mark with one job more ahead.
@@ -111,11 +106,11 @@ pub fn lowest(
     let mut i = count;
     while 3 < row.mark || row.low < row.height {
         i -= 1;
-        let on = taken(wide(tokens[i]), row, first, second);
+        let on = taken(wide_u16(tokens[i]), row, first, second);
         row = on;
     }
     Decision {
-        rule: rule(wide(tokens[i]), row.mark),
+        rule: rule(wide_u16(tokens[i]), row.mark),
         position: i,
     }
 }
@@ -129,7 +124,7 @@ pub fn jobs_under(tokens: &[u16; record::NODE_ROOM], at: usize) -> usize
     let mut jobs = 0;
     let mut i = at;
     while trees > 0 {
-        let token = wide(tokens[i]);
+        let token = wide_u16(tokens[i]);
         if token < 256 {
             trees -= 1;
             jobs += 1;

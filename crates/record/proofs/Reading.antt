@@ -11,10 +11,11 @@ use Rattle.poset.specs.Tree.{Kind, series, parallel, Tree, leaf, node, Forest, 
 use Rattle.record.specs.Bits.{AllBelow, bits}
 use Rattle.record.specs.Layout.{hoursBits, kindBit, moreChildren, hoursOf, treeBits, forestBits}
 use Rattle.record.specs.Decode.{Reader, readBits, kindOf, readForest, grouped, readTree}
+use Rattle.record.specs.Tokens.{Small}
 use Rattle.record.proofs.Below.{below-nil, below-cons, below-head, below-tail, below-append, below-rest}
 use Rattle.record.proofs.Fields.{bit-alone, read-back, after, Read, bits-read}
 use Rattle.record.proofs.Entries.{entry-below, map-append}
-use Rattle.record.proofs.Sizes.{groups-lt, forest-groups, Small, small-left, small-right}
+use Rattle.record.proofs.Sizes.{groups-lt, forest-groups, small-left, small-right}
 
 -- a laid out tree is read
 

@@ -8,13 +8,15 @@ use native.Mathlib.Omega.{arith}
 use lib.ListN.{length, length-append}
 use Rattle.poset.specs.Lists.{occurrences, sum, below}
 use Rattle.poset.specs.Tree.{Kind, series, parallel, Tree, leaf, node, Forest, last, more, trees, leaves, forestLeaves, groups, forestGroups, Spans}
+use Rattle.poset.specs.Inner.{Once}
 use Rattle.poset.proofs.Laws.{lt-true, count-mem, below-mem, mem-below}
 use Rattle.poset.proofs.Sums.{sum-gap, sum-agree, sum-const, length-below}
 use Rattle.poset.proofs.Distinct.{sum-counts}
-use Rattle.poset.proofs.Shape.{Once, in-leaves, leaves-in}
+use Rattle.poset.proofs.Shape.{in-leaves, leaves-in}
 use Rattle.poset.proofs.Meaning.{once-count, spans-holds, holds-spans}
 use Rattle.record.specs.Bits.{AllBelow, bits}
 use Rattle.record.specs.Layout.{hoursBits, leafBits, kindBit, moreChildren, hoursOf, treeBits, forestBits}
+use Rattle.record.specs.Tokens.{Small}
 use Rattle.record.proofs.Below.{below-cons, below-append, below-left, below-right}
 use Rattle.record.proofs.Fields.{bits-below, length-bits}
 
@@ -136,10 +138,7 @@ module _ (hours : List ℕ) where
     forestBits-below (last t) = treeBits-below t
     forestBits-below (more t f) = below-append (treeBits-below t) (forestBits-below f)
 
--- at most 128 leaves, all below 128: every field of the tree fits in 7 bits
-
-abbrev pub Small : List ℕ → Type 0
-Small js = AllBelow 128 js × (length js ≤ 128)
+-- leaves that fit a record
 
 pub small-left : (js ks : List ℕ) → Small (js ++ ks) → Small js
 small-left js ks h = (below-left js ks (h .0), omega (arith, h .1, length-append js ks))

@@ -10,9 +10,9 @@ use Rattle.poset.specs.Tree.{Kind, Tree, leaf, node, Forest, last, more, leaves
 use Rattle.poset.proofs.Laws.{lt-true, ltb-true, false-unless, flatMap-append}
 use Rattle.record.specs.Bits.{bits}
 use Rattle.record.specs.Layout.{hoursBits, leafBits, kindBit, moreChildren, hoursOf, treeBits, forestBits}
-use Rattle.record.specs.Tokens.{groupToken, tokens, forestTokens, fieldBits, nodeRoom}
+use Rattle.record.specs.Tokens.{groupToken, tokens, forestTokens, fieldBits, nodeRoom, Small}
 use Rattle.record.proofs.Fields.{length-bits, bits-cons}
-use Rattle.record.proofs.Sizes.{groups-lt, forest-groups, kind-below, Small, small-left, small-right}
+use Rattle.record.proofs.Sizes.{groups-lt, forest-groups, kind-below, small-left, small-right}
 
 -- a token is a leaf and its hours, or a 1 and a byte
 module _ (hours : List ℕ) (x : ℕ) where

@@ -1,12 +1,13 @@
 -- A tree as its tokens in a row, node before children: a leaf is its job, a group is 256, 128 for a parallel one, and its children minus 1.
--- For inner contracts alone: who reads what a record is need not believe it, but specs/Layout.antt. The laws of it stand in proofs/Tokens.antt.
-use Prim.Native.Nat.{ℕ, _+_, _-_, _*_, _%_}
+-- For inner contracts alone: who reads what a record is need not believe it, but specs/Layout.antt. The laws of it stand in proofs/Tokens.antt, those of
+-- leaves that fit a record in proofs/Sizes.antt.
+use Prim.Native.Nat.{ℕ, _+_, _-_, _*_, _%_, _≤_}
 use mathlib.Core.List.{List, [], _∷_, _++_}
 use mathlib.Core.Bool.{true, false}
 use lib.Dec.{ltb}
 use lib.ListN.{length, replicate}
 use Rattle.poset.specs.Tree.{Kind, Tree, leaf, node, Forest, last, more}
-use Rattle.record.specs.Bits.{bits}
+use Rattle.record.specs.Bits.{AllBelow, bits}
 use Rattle.record.specs.Layout.{hoursBits, kindBit, moreChildren, hoursOf}
 
 abbrev pub groupToken : Kind → ℕ → ℕ
@@ -32,3 +33,7 @@ nodeRoom = 256
 -- tokens in the first entries of so many, the others 0
 abbrev pub listing : List ℕ → List ℕ
 listing xs = xs ++ replicate (nodeRoom - length xs) 0
+
+-- leaves that fit a record: at most 128, all below 128, so that every field of the tree fits in 7 bits
+abbrev pub Small : List ℕ → Type 0
+Small js = AllBelow 128 js × (length js ≤ 128)

@@ -1,4 +1,4 @@
-// The reader of sheets for a C program that measures it.
+//! The reader of sheets for a C program that measures it.
 
 ghost use mathlib.Core.Path.{_≡_};
 ghost use Rattle.sheet.specs.Scan.{scan};

@@ -1,5 +1,5 @@
-// Reads sheets from standard input and prints what the reader says of each, to compare with the file stdout.
-// A case is a name, a colon, the bytes of a sheet, and the byte 254.
+//! Reads sheets from standard input and prints what the reader says of each, to compare with the file stdout.
+//! A case is a name, a colon, the bytes of a sheet, and the byte 254.
 
 use libc::STDIN_FILENO;
 use libc::STDOUT_FILENO;

@@ -10,8 +10,9 @@ use Rattle.poset.specs.Lists.{sum}
 use Rattle.poset.specs.Order.{Rel}
 use Rattle.poset.specs.Tree.{series, parallel}
 use Rattle.poset.specs.Decompose.{placed, arranged}
+use Rattle.poset.specs.Inner.{Each}
 use Rattle.poset.proofs.Laws.{decided, and-left}
-use Rattle.poset.proofs.Laying.{Each, placed-yes, placed-not, arranged-each}
+use Rattle.poset.proofs.Laying.{placed-yes, placed-not, arranged-each}
 use Rattle.poset.proofs.Sums.{sum-const}
 use Rattle.relation.specs.Table.{has, members}
 use Rattle.record.specs.Layout.{kindBit}

@@ -8,12 +8,13 @@ use Rattle.poset.specs.Order.{Rel, Strict}
 use Rattle.poset.specs.Tree.{Kind, series, parallel}
 use lib.ListN.{getD}
 use Rattle.poset.specs.Decompose.{Block, arranged, comesFirst}
+use Rattle.poset.specs.Inner.{Each, Pairs}
 use Rattle.poset.proofs.Standing.{near, Stands, near-sym, near-either, stands-near, free, forced}
 use Rattle.poset.proofs.Laws.{clash}
 use Rattle.poset.proofs.Linked.{Linked}
 use Rattle.poset.proofs.Shape.{Same}
 use Rattle.poset.proofs.Components.{Of, OfBlocks, Sorted}
-use Rattle.poset.proofs.Laying.{Each, Laid, Pairs, Ordered, Joined, Meet, head-in, arranged-each, arranged-same, meet-laid, asymmetric, all-before}
+use Rattle.poset.proofs.Laying.{Laid, Ordered, Joined, Meet, head-in, arranged-each, arranged-same, meet-laid, asymmetric, all-before}
 use Rattle.writer.proofs.Worklist.{GroupOf}
 
 pub record Piece (k : Kind) (r : Rel) (b : Block) (left : ℕ → Type 0) : Type 1 where

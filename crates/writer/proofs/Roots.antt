@@ -18,7 +18,7 @@ use Rattle.poset.proofs.Sums.{length-below}
 use Rattle.relation.proofs.Lists.{keep-append, keep-none}
 use Rattle.poset.proofs.Standing.{near, near-sym, near-either}
 use Rattle.poset.specs.Decompose.{arranged}
-use Rattle.poset.proofs.Laying.{Each}
+use Rattle.poset.specs.Inner.{Each}
 use Rattle.poset.proofs.Linked.{Linked}
 use Rattle.poset.proofs.Components.{Of, Sorted}
 use Rattle.poset.proofs.Connected.{connected-n}

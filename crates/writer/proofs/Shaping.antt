@@ -13,6 +13,7 @@ use Rattle.poset.specs.Lists.{below}
 use Rattle.poset.specs.Order.{Rel, Strict, HasN}
 use Rattle.poset.specs.Tree.{leaves, reversed, groups}
 use Rattle.poset.specs.Decompose.{treeOf}
+use Rattle.poset.specs.Inner.{Each}
 use Rattle.poset.proofs.Laws.{found-or-none}
 use Rattle.poset.proofs.Sums.{length-below}
 use Rattle.poset.proofs.Telling.{tells-means}
@@ -30,7 +31,6 @@ use Rattle.writer.proofs.Stacking.{entry-same, stacks-lower}
 use Rattle.writer.proofs.Roots.{cut-count, cut-jobs}
 use Rattle.writer.proofs.Entries.{EntryOk, Every, every-append, jobs-append, jobs-spread, entries-few, toPending, pend}
 use Rattle.writer.proofs.Entries.{pend-append, pend-spread, field-token, splits-jobs, splits-each, spread-every, PartOk, laid-sum, laid-each, setsOf}
-use Rattle.poset.proofs.Laying.{Each}
 
 -- the arrays that are written
 pub record Arrays : Type 0 where

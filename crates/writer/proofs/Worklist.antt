@@ -12,12 +12,13 @@ use Rattle.poset.specs.Order.{Rel}
 use Rattle.poset.specs.Decompose.{Block}
 use Rattle.poset.specs.Tree.{Kind, series, parallel, Tree, leaf, node, Forest, last, more}
 use Rattle.poset.specs.Tree.{leaves, forestLeaves, reversed, forestReversed, joined, groups, forestGroups}
+use Rattle.poset.specs.Inner.{Each}
 use Rattle.poset.proofs.Shape.{Same, good-once}
 use Rattle.poset.proofs.Ranks.{block-size}
 use Rattle.poset.proofs.Standing.{near}
 use Rattle.poset.proofs.Linked.{Linked}
 use Rattle.poset.proofs.Components.{Of, OfBlocks, Sorted}
-use Rattle.poset.proofs.Laying.{Each, Laid, Ordered}
+use Rattle.poset.proofs.Laying.{Laid, Ordered}
 use Rattle.poset.proofs.Sums.{length-below}
 use Rattle.poset.proofs.Decomposition.{below-sorted}
 use Rattle.poset.proofs.Telling.{Tells, TellsForest, tells-leaf, tells-last, tells-more, tells-node}

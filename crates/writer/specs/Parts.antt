@@ -8,7 +8,7 @@ use lib.ListN.{length, take, getD}
 use Rattle.poset.specs.Order.{Rel}
 use Rattle.poset.specs.Tree.{outranks}
 use Rattle.poset.specs.Decompose.{arranged}
-use Rattle.poset.proofs.Laying.{Each, Pairs}
+use Rattle.poset.specs.Inner.{Each, Pairs}
 use Rattle.relation.specs.Table.{has, members, Least}
 
 -- how many jobs a set has, and the smallest

@@ -1,3 +1,4 @@
+-- `analyse_pairs` meets its contract: an odd list decides 2, and the count, the hours and the pairs all others.
 use borrow.Author.Needs.{needs}
 use mathlib.Core.Path.{sym, refl}
 use Rattle.relation.specs.Arcs.{pairs}

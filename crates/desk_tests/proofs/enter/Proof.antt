@@ -2,13 +2,12 @@
 use Prim.Native.Nat.{_-_}
 use mathlib.Core.Logic.{⊎-elim}
 use native.Mathlib.Omega.{arith}
-use Rattle.analysis.proofs.Copying.{Copied, copy-start, copy-next}
-use Rattle.desk_tests.proofs.Entering.{Fitting, all-fit, some-fit, enter-end}
+use Rattle.desk_tests.proofs.Entering.{Entering, enter-all, enter-some, enter-next, enter-end}
 use Rattle.desk_tests.proofs.enter.Statement.{statement}
 use Rattle.desk_tests.proofs.enter.Tie as tie
 
 abbrev Inv-loop : tie.InvT-loop
-Inv-loop area₀ entries count i₀ area i = Fitting entries area₀ count × Copied entries area₀ count i area
+Inv-loop area₀ entries count i₀ area i = Entering entries area₀ count i area
 
 abbrev μ-loop : tie.MeasureT-loop
 μ-loop area₀ entries count i₀ area i = count - i
@@ -16,7 +15,7 @@ abbrev μ-loop : tie.MeasureT-loop
 loop-holds : tie.Need-loop-holds Inv-loop μ-loop
 loop-holds c =
     let size = c .before .good .0 .1 .0 .1 in
-    (⊎-elim (λ w. all-fit _ _ _ (omega arith) (omega arith)) (λ w. some-fit _ _ _ (omega arith) (omega arith)) (c .if1 .came), copy-start _ _ _)
+    ⊎-elim (λ w. enter-all _ _ _ (omega arith) (omega arith)) (λ w. enter-some _ _ _ (omega arith) (omega arith)) (c .if1 .came)
 
 array-read-area : tie.Need-array-read-area Inv-loop μ-loop
 array-read-area c = omega arith
@@ -31,15 +30,13 @@ loop-less : tie.Need-loop-less Inv-loop μ-loop
 loop-less c = omega arith
 
 loop-again : tie.Need-loop-again Inv-loop μ-loop
-loop-again c =
-    let f = c .before .loop .inv .0 in
-    (f, copy-next _ _ _ _ _ (c .before .loop .inv .1) (c .loop-test .taken) (f .within) (f .room))
+loop-again c = enter-next _ _ _ _ _ (c .before .loop .inv) (c .loop-test .taken)
 
 same-length : tie.Need-same-length Inv-loop μ-loop
-same-length c = c .before .loop .inv .1 .size
+same-length c = c .before .loop .inv .copied .size
 
 returns : tie.Need-returns Inv-loop μ-loop
-returns c = let v = c .before .loop .inv in enter-end _ _ _ _ _ (v .0) (v .1) (c .loop-test .left)
+returns c = enter-end _ _ _ _ _ (c .before .loop .inv) (c .loop-test .left)
 
 pub enter-spec : {M : Type 1} → statement M
 enter-spec =

@@ -1,3 +1,4 @@
+-- What is read goes into the part of the buffer after the first bytes, so these stay.
 use borrow.Author.Needs.{needs}
 use Prim.Native.Nat.{_≤_}
 use mathlib.Core.Path.{_∙_}

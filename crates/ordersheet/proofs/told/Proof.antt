@@ -1,3 +1,4 @@
+-- What an answer says: whether the read went well, and how many bytes it read.
 use borrow.Author.Needs.{needs}
 use mir.Facts.{toZ-ofZ}
 use Rattle.ordersheet.proofs.Counts.{succeeded-is}

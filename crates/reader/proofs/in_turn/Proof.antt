@@ -30,11 +30,11 @@ cast-jobs c = omega (arith, job-in c)
 array-write-jobs : tie.Need-array-write-jobs Inv-loop μ-loop
 array-write-jobs c = omega arith
 
-element-copy-out-wide : tie.Need-element-copy-out-wide Inv-loop μ-loop
-element-copy-out-wide c = job-in c
+element-copy-out-wide-u8 : tie.Need-element-copy-out-wide-u8 Inv-loop μ-loop
+element-copy-out-wide-u8 c = job-in c
 
-wide-requires : tie.Need-wide-requires Inv-loop μ-loop
-wide-requires c κs = tt
+wide-u8-requires : tie.Need-wide-u8-requires Inv-loop μ-loop
+wide-u8-requires c κs = tt
 
 add-i : tie.Need-add-i Inv-loop μ-loop
 add-i c = omega arith
@@ -47,7 +47,7 @@ loop-again c =
     let l = c .before .before .before in
     let s = l .before in
     subst (λ (j : ℕ). Walked (s .args .next .now) (s .args .first) (s .args .count) (l .loop .i + 1) j (set (l .loop .jobs) (l .loop .i) (l .loop .job)))
-    (sym (c .wide .ensures .0))
+    (sym (c .wide-u8 .ensures .0))
     (walked-more (s .args .next .now) (s .args .first) (s .args .count)
     (l .loop .i) (l .loop .job) (l .loop .jobs) (l .loop .inv) (s .pre .0) (c .before .before .loop-test .taken))
 
@@ -67,8 +67,8 @@ in-turn-spec =
     loop-holds
     cast-jobs
     array-write-jobs
-    element-copy-out-wide
-    wide-requires
+    element-copy-out-wide-u8
+    wide-u8-requires
     add-i
     loop-less
     loop-again

@@ -20,22 +20,22 @@ read-tree c =
 
 outside : (c : tie.Joined2)
     → let r = c .before .before .before .before in
-    (r .read-nodes .result .jobs ≤ r .before .before .wide .result) ⊎ (r .read-nodes .result .jobs ≤ r .before .wide2 .result)
+    (r .read-nodes .result .jobs ≤ r .before .before .wide-u16 .result) ⊎ (r .read-nodes .result .jobs ≤ r .before .wide-u162 .result)
 outside c = ⊎-elim (λ h. inl (h .taken)) (λ h. inr (leb-true _ _ (h .2 .taken))) (c .if2 .came)
 
 seeks : (c : tie.Else3)
     → let r = c .before .before .before .before .before .before in
-    Sought (r .before .before .wide .result) (r .before .wide2 .result) (read-tree (c .before .before .before .before) .tree)
+    Sought (r .before .before .wide-u16 .result) (r .before .wide-u162 .result) (read-tree (c .before .before .before .before) .tree)
     (r .read-nodes .result .tokens) (r .read-nodes .result .count)
 seeks c =
     let e = c .before .before in
     sought (read-tree (e .before .before)) _ _ (e .if2 .left) (leb-false _ _ (c .if3 .left))
 
-wide-requires : tie.Need-wide-requires
-wide-requires c κs = search needs
+wide-u16-requires : tie.Need-wide-u16-requires
+wide-u16-requires c κs = search needs
 
-wide-requires-2 : tie.Need-wide-requires-2
-wide-requires-2 c κs = search needs
+wide-u16-requires-2 : tie.Need-wide-u16-requires-2
+wide-u16-requires-2 c κs = search needs
 
 read-nodes-requires : tie.Need-read-nodes-requires
 read-nodes-requires c κs = search needs
@@ -55,7 +55,7 @@ returns-2 : tie.Need-returns-2
 returns-2 c =
     let j = c .before in
     let v = j .before .before .before .before .before in
-    rw (c .turned-away2 .ensures) (rw (v .before .wide .ensures, v .wide2 .ensures) at (shows-14 (read-tree (j .before .before)) _ _ (outside j)))
+    rw (c .turned-away2 .ensures) (rw (v .before .wide-u16 .ensures, v .wide-u162 .ensures) at (shows-14 (read-tree (j .before .before)) _ _ (outside j)))
 
 lowest-requires : tie.Need-lowest-requires
 lowest-requires c κs = (_, seeks (c .before .before))
@@ -72,7 +72,7 @@ returns-3 c =
     let e = f .before .before .before in
     let v = e .before .before .before .before .before .before .before in
     let found = f .lowest .ensures _ (seeks e) in
-    rw (v .before .wide .ensures, v .wide2 .ensures) at
+    rw (v .before .wide-u16 .ensures, v .wide-u162 .ensures) at
     (shows-reason (read-tree (e .before .before .before .before)) _ _ (e .before .before .if2 .left) (leb-false _ _ (e .if3 .left)) found _
     (c .jobs-under .ensures _ (found .ahead)))
 
@@ -80,8 +80,8 @@ pub reason-between-spec : {M : Type 1} → statement M
 reason-between-spec =
     tie.close
     (tie.spec
-    wide-requires
-    wide-requires-2
+    wide-u16-requires
+    wide-u16-requires-2
     read-nodes-requires
     turned-away-requires
     returns

@@ -1,3 +1,4 @@
+-- `areas::copy` meets its contract. The loop's invariant: the first i bytes are copied.
 use Prim.Native.Nat.{_-_}
 use native.Mathlib.Omega.{arith}
 use Rattle.analysis.proofs.Copying.{Copied, copy-start, copy-next, copy-end}

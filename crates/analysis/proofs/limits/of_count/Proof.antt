@@ -1,3 +1,4 @@
+-- `limits::of_count` meets its contract: the count decides 3, how many arcs there are 4, and the hours and the arcs all others.
 use borrow.Author.Needs.{needs}
 use mathlib.Core.Path.{sym, ap₂, refl, _∙_}
 use native.Mathlib.Omega.{arith}

@@ -1,3 +1,4 @@
+-- `limits::of_hours` meets its contract: how many hours there are decides 12, the first that is too large 13, and the arcs all others.
 use borrow.Author.Needs.{needs}
 use mathlib.Core.Path.{sym, ap, refl, _∙_}
 use Rattle.relation.specs.Arcs.{found}

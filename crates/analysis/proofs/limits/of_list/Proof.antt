@@ -1,3 +1,4 @@
+-- `limits::of_list` meets its contract: the first arc that names a job not below the count decides 5.
 use borrow.Author.Needs.{needs}
 use mathlib.Core.Path.{sym, ap, refl, _∙_}
 use Rattle.relation.specs.Arcs.{found}

@@ -1,3 +1,4 @@
+-- `limits::of_named` meets its contract: the first arc from a job to itself decides 6, and the order all others.
 use borrow.Author.Needs.{needs}
 use mathlib.Core.Path.{sym, ap, refl, _∙_}
 use Rattle.relation.specs.Arcs.{pairs, found}

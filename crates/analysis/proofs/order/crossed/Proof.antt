@@ -1,3 +1,4 @@
+-- `order::crossed` meets its contract: the places are those of the four that the search finds.
 use borrow.Author.Needs.{needs}
 use mathlib.Core.Path.{sym, ap, _∙_}
 use Rattle.relation.specs.Arcs.{foundFour}

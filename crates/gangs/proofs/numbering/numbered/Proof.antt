@@ -26,14 +26,14 @@ in-room c =
 loop-holds : tie.Need-loop-holds Inv-loop μ-loop
 loop-holds c = λ t l. rw (c .pre .1, c .pre .2) (ready-first t _ _ l _)
 
-mul-wide : tie.Need-mul-wide Inv-loop μ-loop
-mul-wide c = omega (arith, in-room c)
+mul-wide-u16 : tie.Need-mul-wide-u16 Inv-loop μ-loop
+mul-wide-u16 c = omega (arith, in-room c)
 
-element-copy-out-wide : tie.Need-element-copy-out-wide Inv-loop μ-loop
-element-copy-out-wide c = in-room c
+element-copy-out-wide-u16 : tie.Need-element-copy-out-wide-u16 Inv-loop μ-loop
+element-copy-out-wide-u16 c = in-room c
 
-wide-requires : tie.Need-wide-requires Inv-loop μ-loop
-wide-requires c κs = tt
+wide-u16-requires : tie.Need-wide-u16-requires Inv-loop μ-loop
+wide-u16-requires c κs = tt
 
 taken-requires : tie.Need-taken-requires Inv-loop μ-loop
 taken-requires c κs =
@@ -41,7 +41,7 @@ taken-requires c κs =
     let i = w .before .before in
     let s = i .before .before in
     let (t, l) = s .pre .3 in
-    (s .pre .0, (t, _, ready-node t _ _ l _ _ _ _ _ _ (i .loop-test .taken) _ (w .wide .ensures) (i .before .loop .inv t l)))
+    (s .pre .0, (t, _, ready-node t _ _ l _ _ _ _ _ _ (i .loop-test .taken) _ (w .wide-u16 .ensures) (i .before .loop .inv t l)))
 
 add-i : tie.Need-add-i Inv-loop μ-loop
 add-i c = omega (arith, in-room (c .before .before .before .before .before .before .before .before))
@@ -53,15 +53,15 @@ loop-again : tie.Need-loop-again Inv-loop μ-loop
 loop-again c =
     let w = c .before .before .before .before .before .before in
     let i = w .before .before in λ t l.
-    c .taken .ensures t _ (ready-node t _ _ l _ _ _ _ _ _ (i .loop-test .taken) _ (w .wide .ensures) (i .before .loop .inv t l))
+    c .taken .ensures t _ (ready-node t _ _ l _ _ _ _ _ _ (i .loop-test .taken) _ (w .wide-u16 .ensures) (i .before .loop .inv t l))
 
-number-requires : tie.Need-number-requires Inv-loop μ-loop
-number-requires c κs = tt
+wide-u8-requires : tie.Need-wide-u8-requires Inv-loop μ-loop
+wide-u8-requires c κs = tt
 
 returns : tie.Need-returns Inv-loop μ-loop
 returns c =
     let a = c .before in λ t l.
-    ready-last t _ _ l _ _ _ _ _ _ (a .loop-test .left) (a .before .loop .inv t l) _ (c .number .ensures)
+    ready-last t _ _ l _ _ _ _ _ _ (a .loop-test .left) (a .before .loop .inv t l) _ (c .wide-u8 .ensures .0)
 
 pub numbered-spec : {M : Type 1} → statement M
 numbered-spec =
@@ -70,12 +70,12 @@ numbered-spec =
     Inv-loop
     μ-loop
     loop-holds
-    mul-wide
-    element-copy-out-wide
-    wide-requires
+    mul-wide-u16
+    element-copy-out-wide-u16
+    wide-u16-requires
     taken-requires
     add-i
     loop-less
     loop-again
-    number-requires
+    wide-u8-requires
     returns)

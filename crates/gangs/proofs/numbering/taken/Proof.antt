@@ -15,8 +15,8 @@ leaf-low c =
     let (t, xs, ready) = s .pre .1 in
     (gang-low t _ (s .pre .0) _ _ _ xs _ _ ready (c .if1 .taken), job-low t _ (s .pre .0) _ _ _ xs _ _ ready (c .if1 .taken))
 
-numbered-low : (c : tie.After-number) → c .number .result < 128
-numbered-low c = omega (arith, c .number .ensures, leaf-low (c .before))
+numbered-low : (c : tie.After-wide-u8) → c .wide-u8 .result < 128
+numbered-low c = omega (arith, c .wide-u8 .ensures .0, leaf-low (c .before))
 
 -- the depth of a group, and its token
 group-low : (c : tie.Else1) → (c .before .args .place .depth < 128) × (c .before .args .token < 512)
@@ -28,8 +28,8 @@ group-low c =
 element-write-gangs : tie.Need-element-write-gangs
 element-write-gangs c = leaf-low c .1
 
-number-requires : tie.Need-number-requires
-number-requires c κs = search needs
+wide-u8-requires : tie.Need-wide-u8-requires
+wide-u8-requires c κs = search needs
 
 mul-hours : tie.Need-mul-hours
 mul-hours c = omega (arith, numbered-low c)
@@ -51,7 +51,7 @@ add-hours c =
     let l = c .before .before .before .before in
     let s = l .before in
     let (t, xs, ready) = s .pre .1 in
-    rw (c .before .before .before .number .ensures, c .long .ensures)
+    rw (c .before .before .before .wide-u8 .ensures .0, c .long .ensures)
     (omega (arith, hours-low t _ (s .pre .0) _ _ _ xs _ _ ready (l .if1 .taken)))
 
 mul-hours-2 : tie.Need-mul-hours-2
@@ -82,7 +82,7 @@ returns c =
     let l = n .before in
     let s = l .before in λ t xs ready.
     let (o, d, e) = done t _ (s .pre .0) _ _ _ xs _ _ ready (l .if1 .taken) _ refl refl refl (g .larger .ensures) in
-    rw (n .number .ensures, g .before .before .long .ensures)
+    rw (n .wide-u8 .ensures .0, g .before .before .long .ensures)
     (leaf-taken t _ (s .pre .0) _ _ _ xs _ _ ready (l .if1 .taken) _ (subst (At t _ (c .onward .result)) e (c .onward .ensures t o _ d)))
 
 element-write-shapes : tie.Need-element-write-shapes
@@ -110,7 +110,7 @@ taken-spec =
     tie.close
     (tie.spec
     element-write-gangs
-    number-requires
+    wide-u8-requires
     mul-hours
     element-copy-out-hours
     mul-long

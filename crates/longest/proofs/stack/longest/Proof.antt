@@ -29,14 +29,14 @@ loop-holds c = (omega arith, λ t l. row-end t _ _ l _ (c .pre .1) _)
 sub-i : tie.Need-sub-i Inv-loop μ-loop
 sub-i c = omega (arith, c .loop-test .taken)
 
-mul-wide : tie.Need-mul-wide Inv-loop μ-loop
-mul-wide c = omega (arith, in-room c)
+mul-wide-u16 : tie.Need-mul-wide-u16 Inv-loop μ-loop
+mul-wide-u16 c = omega (arith, in-room c)
 
-element-copy-out-wide : tie.Need-element-copy-out-wide Inv-loop μ-loop
-element-copy-out-wide c = omega (arith, in-room c)
+element-copy-out-wide-u16 : tie.Need-element-copy-out-wide-u16 Inv-loop μ-loop
+element-copy-out-wide-u16 c = omega (arith, in-room c)
 
-wide-requires : tie.Need-wide-requires Inv-loop μ-loop
-wide-requires c κs = tt
+wide-u16-requires : tie.Need-wide-u16-requires Inv-loop μ-loop
+wide-u16-requires c κs = tt
 
 taken-requires : tie.Need-taken-requires Inv-loop μ-loop
 taken-requires c κs =
@@ -48,7 +48,7 @@ taken-requires c κs =
       (
         pending (i .before .loop .i) (spells t),
         pending (i .before .loop .i - 1) (spells t),
-        rw (c .before .before .before .before .wide .ensures) (row-step t _ _ l _ (i .loop-test .taken) inside),
+        rw (c .before .before .before .before .wide-u16 .ensures) (row-step t _ _ l _ (i .loop-test .taken) inside),
         row-fits t _ _ l (i .before .loop .i - 1),
         stacked t l,
       ),
@@ -64,7 +64,7 @@ loop-again c =
       omega arith,
       λ t l.
           c .taken .ensures (pending (i .before .loop .i) (spells t)) (pending (i .before .loop .i - 1) (spells t))
-          (rw (c .before .before .before .before .before .wide .ensures) (row-step t _ _ l _ (i .loop-test .taken) inside))
+          (rw (c .before .before .before .before .before .wide-u16 .ensures) (row-step t _ _ l _ (i .loop-test .taken) inside))
           (row-fits t _ _ l (i .before .loop .i - 1)) (stacked t l),
     )
 
@@ -91,9 +91,9 @@ longest-spec =
     μ-loop
     loop-holds
     sub-i
-    mul-wide
-    element-copy-out-wide
-    wide-requires
+    mul-wide-u16
+    element-copy-out-wide-u16
+    wide-u16-requires
     taken-requires
     loop-less
     loop-again

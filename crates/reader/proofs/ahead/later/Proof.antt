@@ -33,20 +33,20 @@ loop-holds c = later-none (take (c .args .n) (c .args .list .now)) (c .args .n) 
 sub-i : tie.Need-sub-i Inv-loop μ-loop
 sub-i c = search needs
 
-element-copy-out-wide : tie.Need-element-copy-out-wide Inv-loop μ-loop
-element-copy-out-wide c = omega (arith, job-entry c .0, c .before .before .pre .0)
+element-copy-out-wide-u8 : tie.Need-element-copy-out-wide-u8 Inv-loop μ-loop
+element-copy-out-wide-u8 c = omega (arith, job-entry c .0, c .before .before .pre .0)
 
-wide-requires : tie.Need-wide-requires Inv-loop μ-loop
-wide-requires c κs = tt
+wide-u8-requires : tie.Need-wide-u8-requires Inv-loop μ-loop
+wide-u8-requires c κs = tt
 
 mul-rows : tie.Need-mul-rows Inv-loop μ-loop
-mul-rows c = omega (arith, job-entry (c .before .before) .2, c .wide .ensures)
+mul-rows c = omega (arith, job-entry (c .before .before) .2, c .wide-u8 .ensures)
 
 array-set-from-rows : tie.Need-array-set-from-rows Inv-loop μ-loop
-array-set-from-rows c = omega (arith, job-entry (c .before .before) .2, c .wide .ensures)
+array-set-from-rows c = omega (arith, job-entry (c .before .before) .2, c .wide-u8 .ensures)
 
 only-requires : tie.Need-only-requires Inv-loop μ-loop
-only-requires c κs = omega (arith, job-entry (c .before .before) .2, c .wide .ensures)
+only-requires c κs = omega (arith, job-entry (c .before .before) .2, c .wide-u8 .ensures)
 
 union-requires : tie.Need-union-requires Inv-loop μ-loop
 union-requires c κs = search needs
@@ -59,7 +59,7 @@ loop-again c =
     let k = c .before .before .before .before in
     let l = k .before .loop in
     let s = k .before .before in
-    let w = c .before .before .wide in
+    let w = c .before .before .wide-u8 in
     later-more (take (s .args .n) (s .args .list .now)) (l .i) (l .rows) (l .passed) (l .inv) (k .loop-test .taken)
     (w .result) (w .ensures .0 ∙ job-entry k .1) (c .before .only .result) (c .union .result)
     (omega (arith, job-entry k .2, w .ensures)) (c .before .only .ensures) (c .union .ensures)
@@ -79,8 +79,8 @@ later-spec =
     μ-loop
     loop-holds
     sub-i
-    element-copy-out-wide
-    wide-requires
+    element-copy-out-wide-u8
+    wide-u8-requires
     mul-rows
     array-set-from-rows
     only-requires

@@ -44,29 +44,29 @@ loop-holds c =
 sub-i : tie.Need-sub-i Inv-loop μ-loop
 sub-i c = search needs
 
-element-copy-out-wide : tie.Need-element-copy-out-wide Inv-loop μ-loop
-element-copy-out-wide c = omega (arith, job-entry c .0, c .before .before .before .pre .0 .0)
+element-copy-out-wide-u8 : tie.Need-element-copy-out-wide-u8 Inv-loop μ-loop
+element-copy-out-wide-u8 c = omega (arith, job-entry c .0, c .before .before .before .pre .0 .0)
 
-wide-requires : tie.Need-wide-requires Inv-loop μ-loop
-wide-requires c κs = tt
+wide-u8-requires : tie.Need-wide-u8-requires Inv-loop μ-loop
+wide-u8-requires c κs = tt
 
 mul-intersection : tie.Need-mul-intersection Inv-loop μ-loop
-mul-intersection c = omega (arith, job-entry (c .before .before) .2, c .wide .ensures)
+mul-intersection c = omega (arith, job-entry (c .before .before) .2, c .wide-u8 .ensures)
 
 array-copy-out-intersection : tie.Need-array-copy-out-intersection Inv-loop μ-loop
-array-copy-out-intersection c = omega (arith, job-entry (c .before .before) .2, c .wide .ensures)
+array-copy-out-intersection c = omega (arith, job-entry (c .before .before) .2, c .wide-u8 .ensures)
 
 intersection-requires : tie.Need-intersection-requires Inv-loop μ-loop
 intersection-requires c κs = search needs
 
 mul-rows : tie.Need-mul-rows Inv-loop μ-loop
-mul-rows c = omega (arith, job-entry (c .before .before .before .before) .2, c .before .before .wide .ensures)
+mul-rows c = omega (arith, job-entry (c .before .before .before .before) .2, c .before .before .wide-u8 .ensures)
 
 array-set-from-rows : tie.Need-array-set-from-rows Inv-loop μ-loop
-array-set-from-rows c = omega (arith, job-entry (c .before .before .before .before) .2, c .before .before .wide .ensures)
+array-set-from-rows c = omega (arith, job-entry (c .before .before .before .before) .2, c .before .before .wide-u8 .ensures)
 
 only-requires : tie.Need-only-requires Inv-loop μ-loop
-only-requires c κs = omega (arith, job-entry (c .before .before .before .before) .2, c .before .before .wide .ensures)
+only-requires c κs = omega (arith, job-entry (c .before .before .before .before) .2, c .before .before .wide-u8 .ensures)
 
 union-requires : tie.Need-union-requires Inv-loop μ-loop
 union-requires c κs = search needs
@@ -83,9 +83,9 @@ loop-again c =
     let s = k .before .before .before in
     both-more (λ u v. aheadIn u v (take (s .args .n) (s .args .forward .now))) (take (s .args .n) (s .args .reverse .now))
     (λ u. omega (arith, s .pre .1 .1 u, s .pre .1 .2 u))
-    (l .i) (l .rows) (l .passed) (l .inv) (k .loop-test .taken) (w .wide .result) (w .wide .ensures .0 ∙ job-entry k .1)
+    (l .i) (l .rows) (l .passed) (l .inv) (k .loop-test .taken) (w .wide-u8 .result) (w .wide-u8 .ensures .0 ∙ job-entry k .1)
     (c .before .only .result) (c .union .result) (c .before .before .intersection .result)
-    (omega (arith, job-entry k .2, w .wide .ensures)) (c .before .only .ensures) (c .union .ensures) (c .before .before .intersection .ensures)
+    (omega (arith, job-entry k .2, w .wide-u8 .ensures)) (c .before .only .ensures) (c .union .ensures) (c .before .before .intersection .ensures)
 
 returns : tie.Need-returns Inv-loop μ-loop
 returns c =
@@ -104,8 +104,8 @@ order-of-spec =
     later-requires
     loop-holds
     sub-i
-    element-copy-out-wide
-    wide-requires
+    element-copy-out-wide-u8
+    wide-u8-requires
     mul-intersection
     array-copy-out-intersection
     intersection-requires

@@ -9,11 +9,11 @@ use Rattle.reader.proofs.nodes.field.Tie as tie
 add-end : tie.Need-add-end
 add-end c = search needs
 
-shared-slice-read-wide : tie.Need-shared-slice-read-wide
-shared-slice-read-wide c = search needs
+shared-slice-read-wide-u8 : tie.Need-shared-slice-read-wide-u8
+shared-slice-read-wide-u8 c = search needs
 
-wide-requires : tie.Need-wide-requires
-wide-requires c κs = search needs
+wide-u8-requires : tie.Need-wide-u8-requires
+wide-u8-requires c κs = search needs
 
 shr-result : tie.Need-shr-result
 shr-result c = search needs
@@ -27,7 +27,7 @@ rem-result c = let s = c .before .before .before .before in divisor (s .args .wi
 returns : tie.Need-returns
 returns c =
     let s = c .before .before .before .before in
-    let x = c .wide in
+    let x = c .wide-u8 in
     let i = s .args .at / 8 in
     window-shl (s .args .at) (s .args .width) 8 (x .result) (s .pre .1)
     (byte-field (s .args .bytes .now) i (x .result) (omega (arith, s .pre .0, s .pre .2)) (x .ensures .0) (x .ensures .1))
@@ -58,8 +58,8 @@ field-spec =
     tie.close
     (tie.spec
     add-end
-    shared-slice-read-wide
-    wide-requires
+    shared-slice-read-wide-u8
+    wide-u8-requires
     shr-result
     shl-result
     rem-result

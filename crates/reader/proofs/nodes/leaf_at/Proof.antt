@@ -68,14 +68,14 @@ pair-requires-3 c κs = search needs
 mul-three : tie.Need-mul-three
 mul-three c = search needs
 
-add-wide : tie.Need-add-wide
-add-wide c = search needs
+add-wide-u8 : tie.Need-add-wide-u8
+add-wide-u8 c = search needs
 
-shared-slice-read-wide : tie.Need-shared-slice-read-wide
-shared-slice-read-wide c = search needs
+shared-slice-read-wide-u8 : tie.Need-shared-slice-read-wide-u8
+shared-slice-read-wide-u8 c = search needs
 
-wide-requires : tie.Need-wide-requires
-wide-requires c κs = search needs
+wide-u8-requires : tie.Need-wide-u8-requires
+wide-u8-requires c κs = search needs
 
 add-three : tie.Need-add-three
 add-three c = search needs
@@ -94,7 +94,7 @@ returns-3 c =
     let s = c .before .before .before .before .before .before in
     let at = s .args .at in
     let x = c .before .before .pair3 in
-    let y = c .wide in
+    let y = c .wide-u8 in
     let inside = c .before .before .before .if2 .left in
     let z = byte-field (s .args .bytes .now) (at / 8 + 2) (y .result) (omega (arith, inside)) (y .ensures .0) (y .ensures .1) in
     inl (window at leafBits 24 _ (further (at / 8) 2 8 (x .result) (y .result) (x .ensures) z)
@@ -122,9 +122,9 @@ leaf-at-spec =
     returns-2
     pair-requires-3
     mul-three
-    add-wide
-    shared-slice-read-wide
-    wide-requires
+    add-wide-u8
+    shared-slice-read-wide-u8
+    wide-u8-requires
     add-three
     sub-result-3
     shr-result-2

@@ -6,23 +6,23 @@ use Rattle.reader.proofs.Windows.{byte-field, further}
 use Rattle.reader.proofs.nodes.pair.Statement.{statement}
 use Rattle.reader.proofs.nodes.pair.Tie as tie
 
-shared-slice-read-wide : tie.Need-shared-slice-read-wide
-shared-slice-read-wide c = search needs
+shared-slice-read-wide-u8 : tie.Need-shared-slice-read-wide-u8
+shared-slice-read-wide-u8 c = search needs
 
-wide-requires : tie.Need-wide-requires
-wide-requires c κs = search needs
+wide-u8-requires : tie.Need-wide-u8-requires
+wide-u8-requires c κs = search needs
 
 mul-result : tie.Need-mul-result
 mul-result c = search needs
 
-add-wide : tie.Need-add-wide
-add-wide c = search needs
+add-wide-u8 : tie.Need-add-wide-u8
+add-wide-u8 c = search needs
 
-shared-slice-read-wide-2 : tie.Need-shared-slice-read-wide-2
-shared-slice-read-wide-2 c = search needs
+shared-slice-read-wide-u8-2 : tie.Need-shared-slice-read-wide-u8-2
+shared-slice-read-wide-u8-2 c = search needs
 
-wide-requires-2 : tie.Need-wide-requires-2
-wide-requires-2 c κs = search needs
+wide-u8-requires-2 : tie.Need-wide-u8-requires-2
+wide-u8-requires-2 c κs = search needs
 
 add-result : tie.Need-add-result
 add-result c = search needs
@@ -30,8 +30,8 @@ add-result c = search needs
 returns : tie.Need-returns
 returns c =
     let s = c .before .before .before .before .before in
-    let x = c .before .before .wide in
-    let y = c .wide2 in
+    let x = c .before .before .wide-u8 in
+    let y = c .wide-u82 in
     let bytes = s .args .bytes .now in
     further (s .args .i) 1 8 (x .result) (y .result)
     (byte-field bytes (s .args .i) (x .result) (omega (arith, s .pre .0)) (x .ensures .0) (x .ensures .1))
@@ -41,11 +41,11 @@ pub pair-spec : {M : Type 1} → statement M
 pair-spec =
     tie.close
     (tie.spec
-    shared-slice-read-wide
-    wide-requires
+    shared-slice-read-wide-u8
+    wide-u8-requires
     mul-result
-    add-wide
-    shared-slice-read-wide-2
-    wide-requires-2
+    add-wide-u8
+    shared-slice-read-wide-u8-2
+    wide-u8-requires-2
     add-result
     returns)

@@ -28,14 +28,14 @@ few c =
 loop-holds : tie.Need-loop-holds Inv-loop μ-loop
 loop-holds c = λ s a. counted-none _ s _ a
 
-mul-wide : tie.Need-mul-wide Inv-loop μ-loop
-mul-wide c = omega (arith, in-room c)
+mul-wide-u16 : tie.Need-mul-wide-u16 Inv-loop μ-loop
+mul-wide-u16 c = omega (arith, in-room c)
 
-element-copy-out-wide : tie.Need-element-copy-out-wide Inv-loop μ-loop
-element-copy-out-wide c = in-room c
+element-copy-out-wide-u16 : tie.Need-element-copy-out-wide-u16 Inv-loop μ-loop
+element-copy-out-wide-u16 c = in-room c
 
-wide-requires : tie.Need-wide-requires Inv-loop μ-loop
-wide-requires c κs = tt
+wide-u16-requires : tie.Need-wide-u16-requires Inv-loop μ-loop
+wide-u16-requires c κs = tt
 
 sub-trees : tie.Need-sub-trees Inv-loop μ-loop
 sub-trees c = omega (arith, c .before .before .before .loop-test .taken)
@@ -56,7 +56,7 @@ loop-again : tie.Need-loop-again Inv-loop μ-loop
 loop-again c =
     let w = c .before in
     let l = w .before .before in
-    let token = w .wide .ensures in λ s a.
+    let token = w .wide-u16 .ensures in λ s a.
     let counted = l .before .loop .inv s a in
     ⊎-elim
     (λ h.
@@ -73,4 +73,4 @@ returns c = λ s a. counted-all _ s _ _ _ (c .before .loop .inv s a) (c .loop-te
 pub jobs-under-spec : {M : Type 1} → statement M
 jobs-under-spec =
     tie.close
-    (tie.spec Inv-loop μ-loop loop-holds mul-wide element-copy-out-wide wide-requires sub-trees add-jobs add-trees add-i loop-less loop-again returns)
+    (tie.spec Inv-loop μ-loop loop-holds mul-wide-u16 element-copy-out-wide-u16 wide-u16-requires sub-trees add-jobs add-trees add-i loop-less loop-again returns)

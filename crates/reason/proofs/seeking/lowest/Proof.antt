@@ -45,14 +45,14 @@ loop-holds c = λ t x. searched-none _ _ t _ _ x
 sub-i : tie.Need-sub-i Inv-loop μ-loop
 sub-i c = in-room c .0
 
-mul-wide : tie.Need-mul-wide Inv-loop μ-loop
-mul-wide c = omega (arith, in-room c)
+mul-wide-u16 : tie.Need-mul-wide-u16 Inv-loop μ-loop
+mul-wide-u16 c = omega (arith, in-room c)
 
-element-copy-out-wide : tie.Need-element-copy-out-wide Inv-loop μ-loop
-element-copy-out-wide c = omega (arith, in-room c)
+element-copy-out-wide-u16 : tie.Need-element-copy-out-wide-u16 Inv-loop μ-loop
+element-copy-out-wide-u16 c = omega (arith, in-room c)
 
-wide-requires : tie.Need-wide-requires Inv-loop μ-loop
-wide-requires c κs = tt
+wide-u16-requires : tie.Need-wide-u16-requires Inv-loop μ-loop
+wide-u16-requires c κs = tt
 
 taken-requires : tie.Need-taken-requires Inv-loop μ-loop
 taken-requires c κs =
@@ -62,7 +62,7 @@ taken-requires c κs =
     let found = l .loop .inv t x in (
       pending (l .loop .i) (spells t),
       pending (l .loop .i - 1) (spells t),
-      rw (c .wide .ensures) (step _ _ t _ _ x _ _ found (goes-on j)),
+      rw (c .wide-u16 .ensures) (step _ _ t _ _ x _ _ found (goes-on j)),
       row-fits t _ _ (x .nodes) (l .loop .i - 1),
       found .rowed,
     )
@@ -76,16 +76,16 @@ loop-again c =
     let l = j .before .before in λ t x.
     let found = l .loop .inv t x in
     searched-more _ _ t _ _ x _ _ found (goes-on j) _
-    (c .taken .ensures _ _ (rw (c .before .wide .ensures) (step _ _ t _ _ x _ _ found (goes-on j))) (row-fits t _ _ (x .nodes) (l .loop .i - 1)) (found .rowed))
+    (c .taken .ensures _ _ (rw (c .before .wide-u16 .ensures) (step _ _ t _ _ x _ _ found (goes-on j))) (row-fits t _ _ (x .nodes) (l .loop .i - 1)) (found .rowed))
 
-mul-wide-2 : tie.Need-mul-wide-2 Inv-loop μ-loop
-mul-wide-2 c = omega (arith, at-end c)
+mul-wide-u16-2 : tie.Need-mul-wide-u16-2 Inv-loop μ-loop
+mul-wide-u16-2 c = omega (arith, at-end c)
 
-element-copy-out-wide-2 : tie.Need-element-copy-out-wide-2 Inv-loop μ-loop
-element-copy-out-wide-2 c = at-end c
+element-copy-out-wide-u16-2 : tie.Need-element-copy-out-wide-u16-2 Inv-loop μ-loop
+element-copy-out-wide-u16-2 c = at-end c
 
-wide-requires-2 : tie.Need-wide-requires-2 Inv-loop μ-loop
-wide-requires-2 c κs = tt
+wide-u16-requires-2 : tie.Need-wide-u16-requires-2 Inv-loop μ-loop
+wide-u16-requires-2 c κs = tt
 
 rule-requires : tie.Need-rule-requires Inv-loop μ-loop
 rule-requires c κs = tt
@@ -95,7 +95,7 @@ returns c =
     let w = c .before in
     let e = w .before .before in λ t x.
     decided-at _ _ t _ _ x _ _ (e .before .before .before .before .loop .inv t x) (ends e) _
-    (c .rule .ensures ∙ ap (λ (n : ℕ). ruleBy n (e .before .before .before .before .loop .row .mark)) (w .wide2 .ensures))
+    (c .rule .ensures ∙ ap (λ (n : ℕ). ruleBy n (e .before .before .before .before .loop .row .mark)) (w .wide-u162 .ensures))
 
 pub lowest-spec : {M : Type 1} → statement M
 lowest-spec =
@@ -105,14 +105,14 @@ lowest-spec =
     μ-loop
     loop-holds
     sub-i
-    mul-wide
-    element-copy-out-wide
-    wide-requires
+    mul-wide-u16
+    element-copy-out-wide-u16
+    wide-u16-requires
     taken-requires
     loop-less
     loop-again
-    mul-wide-2
-    element-copy-out-wide-2
-    wide-requires-2
+    mul-wide-u16-2
+    element-copy-out-wide-u16-2
+    wide-u16-requires-2
     rule-requires
     returns)
