@@ -10,9 +10,10 @@ use native.Mathlib.Omega.{arith}
 use Rattle.poset.specs.Lists.{sum}
 use Rattle.poset.specs.Order.{Rel}
 use Rattle.poset.specs.Tree.{Kind, series, parallel, Tree, leaf, node, Forest, last, more, trees, Means}
+use Rattle.poset.specs.Inner.{In}
 use Rattle.poset.proofs.Laws.{decided, ltb-true}
 use Rattle.poset.proofs.Heaviest.{grown, heaviest, forestHeaviest, Laid, Attained, not-less, attained, laid-distinct, laid-near, not-heavier}
-use Rattle.poset.proofs.Shape.{In, Good}
+use Rattle.poset.proofs.Shape.{Good}
 use Rattle.poset.proofs.Meaning.{means-fits}
 use Rattle.longest.specs.Chains.{InOrder, empty, next, IsLongest}
 use Rattle.longest.specs.Longest.{WorkRun, joinedRuns, longest, forestLongest, FirstGreatest}

@@ -9,9 +9,10 @@ use lib.Dec.{ltb}
 use Rattle.poset.specs.Lists.{member, sum}
 use Rattle.poset.specs.Order.{Rel}
 use Rattle.poset.specs.Tree.{Kind, series, parallel, Tree, leaf, node, Forest, last, more, leaves, Means}
+use Rattle.poset.specs.Inner.{In, InForest}
 use Rattle.poset.proofs.Laws.{decided, clash, false-unless, ltb-true, member-mem, mem-member}
 use Rattle.poset.proofs.Standing.{stands-back, stands-differ}
-use Rattle.poset.proofs.Shape.{In, InForest, InGroup, in-leaves, leaves-in, Across, Good, GoodForest}
+use Rattle.poset.proofs.Shape.{InGroup, in-leaves, leaves-in, Across, Good, GoodForest}
 use Rattle.poset.proofs.Heaviest.{Laid, not-less}
 use Rattle.poset.proofs.Meaning.{means-fits}
 use Rattle.longest.specs.Longest.{WorkRun, joinedRuns, longest, forestLongest}

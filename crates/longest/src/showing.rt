@@ -1,4 +1,4 @@
-// The jobs of a run in a list.
+//! The jobs of a run in a list.
 ghost use Prim.Native.Nat.{ℕ};
 ghost use mathlib.Core.Path.{_≡_};
 ghost use mathlib.Core.List.{List};
