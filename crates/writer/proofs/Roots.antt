@@ -3,7 +3,7 @@ use Prim.Native.Nat.{ℕ, _+_, _-_, _≤_, _<_}
 use mathlib.Core.Path.{_≡_, refl, sym, ap, ap₂, subst, fun-ext, _∙_}
 use mathlib.Core.List.{List, [], _∷_, _++_, append-nil, List·Memᴰ, List·Memᴰ·head, List·Memᴰ·tail}
 use mathlib.Core.Bool.{Bool, true, false, _&&_, _||_, not}
-use mathlib.Core.Logic.{_⊎_, ⊎-elim}
+use mathlib.Core.Logic.{⊎-elim}
 use native.Mathlib.Decide.{decLt}
 use native.Mathlib.Omega.{arith}
 use lib.Dec.{eqb, ltb}
@@ -25,6 +25,7 @@ use Rattle.poset.proofs.Connected.{connected-n}
 use Rattle.relation.specs.Table.{has, members, Least}
 use Rattle.writer.specs.Parts.{sizeOf, lead, Walk, start, next, Partial, PartOf, Splits, Cut, Sized, Leading, Numbered, Taken, bigger, closeOf}
 use Rattle.writer.specs.Stack.{Entry, jobsOf}
+use Rattle.writer.specs.Turns.{transpose, Tables}
 use Rattle.writer.proofs.Searching.{path-within}
 use Rattle.writer.proofs.Groups.{kindOf, Alike, joined-linked, members-sorted, of-members}
 use Rattle.writer.proofs.Leads.{lead-least}
@@ -276,18 +277,6 @@ under-partial n r under strict inside turned =
           let b = sym (turned v w) ∙ q in
           turned u w ∙ strict .transitive w v u (inside w v b .0) (inside w v b .1) (inside v u a .1) b a;
     }
-
--- The loop reads the order turned round, and which jobs are comparable and which are not.
-
-abbrev pub transpose : Rel → Rel
-transpose r u v = r v u
-
-pub record Tables (n : ℕ) (under tied free : Rel) : Type 0 where
-  pub few : n ≤ 128
-  pub strict : Strict n (transpose under)
-  pub partial : Partial under
-  pub tied-is : Alike n (transpose under) tied false
-  pub free-is : Alike n (transpose under) free true
 
 pub transpose-is : (r under : Rel) → ((u v : ℕ) → under u v ≡ r v u) → transpose under ≡ r
 transpose-is r under turned = fun-ext λ u. fun-ext λ v. turned v u
