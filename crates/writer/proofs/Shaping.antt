@@ -1,6 +1,6 @@
 -- The loop that writes a tree: what holds at each turn, and at its ends.
 use Prim.Native.Nat.{ℕ, zero, suc, _+_, _-_, _≤_, _<_}
-use mathlib.Core.Path.{_≡_, refl, sym, ap, subst, _∙_}
+use mathlib.Core.Path.{_≡_, refl, sym, ap, ap₂, subst, _∙_}
 use mathlib.Core.List.{List, [], _∷_, _++_, map}
 use mathlib.Core.Bool.{Bool, true, false}
 use mathlib.Core.Option.{none, some}
@@ -20,18 +20,18 @@ use Rattle.poset.proofs.Theorems.{tree-of-means, tree-of-sound, tree-has-no-n}
 use Rattle.relation.specs.Table.{members}
 use Rattle.record.specs.Tokens.{groupToken, tokens}
 use Rattle.writer.specs.declared.tree.Progress.{Progress}
-use Rattle.writer.specs.Parts.{sizeOf, lead, Splits, Taken, laidOut, closeOf}
+use Rattle.writer.specs.Parts.{lead, Taken, closeOf}
 use Rattle.writer.specs.Shapes.{shape, shaped}
 use Rattle.writer.specs.Stack.{Entry, Stacks, entries, entryAt, jobsOf, spreadOut, groupField}
-use Rattle.writer.specs.Turns.{Work, work, StacksOf, entriesOf, topOf, Grouped, Leafed, allJobs, begun}
+use Rattle.writer.specs.Turns.{Work, StacksOf, entriesOf, topOf, Grouped, Leafed, allJobs, begun}
 use Rattle.writer.proofs.Stores.{stored, blank-stored, whole-list}
-use Rattle.writer.proofs.Worklist.{Todo, spread, todo-leaf, todo-group, todo-none, todo-all, GroupOf}
+use Rattle.writer.proofs.Worklist.{Pending, Todo, spread, todo-leaf, todo-group, todo-none, todo-all, GroupOf}
 use Rattle.writer.proofs.Groups.{kindOf, Alike, splits-group}
 use Rattle.writer.proofs.Stacking.{entry-same, stacks-lower, stacks-set}
 use Rattle.writer.proofs.Leads.{lead-member, single}
-use Rattle.writer.proofs.Roots.{cut-count}
+use Rattle.writer.proofs.Roots.{cut-count, cut-jobs}
 use Rattle.writer.proofs.Entries.{EntryOk, Every, every-append, jobs-append, jobs-spread, entries-few, toPending, pend}
-use Rattle.writer.proofs.Entries.{pend-append, pend-spread, field-token, splits-jobs, splits-each, spread-every, PartOk, laid-sum, laid-each, setsOf}
+use Rattle.writer.proofs.Entries.{pend-append, pend-spread, field-token, splits-each, spread-every, PartOk, laid-each, setsOf}
 use Rattle.poset.proofs.Laying.{Each}
 
 pub record Shaping (n : ℕ) (r tied free : Rel) (w : Work) (forward reverse : List ℕ) (p : Progress) : Type 0 where
@@ -48,8 +48,10 @@ pub record Shaping (n : ℕ) (r tied free : Rel) (w : Work) (forward reverse : L
   pub reverse-blank : drop n reverse ≡ replicate (128 - n) 0
   pub todo : Todo n r (take (p .count) (w .fields)) (take (p .placed) forward) reverse (p .groups) (pend (entriesOf w (p .height)))
 
-turn {ℓ} : {A : Type ℓ} {x y : A} → x ≡ y → (P : A → Type 0) → P x → P y
-turn e P h = subst P e h
+-- what is to do of the same lists under other names
+todo-same : (n : ℕ) (r : Rel) {out out′ fwd fwd′ rev rev′ : List ℕ} {g g′ : ℕ} {ps ps′ : List Pending} → out′ ≡ out → fwd′ ≡ fwd → rev′ ≡ rev → g′ ≡ g
+    → ps′ ≡ ps → Todo n r out fwd rev g ps → Todo n r out′ fwd′ rev′ g′ ps′
+todo-same n r a b c d e = subst (λ (A : Type 0). A) (λ i. Todo n r (sym a i) (sym b i) (sym c i) (sym d i) (sym e i))
 
 -- the top entry
 top-entry : (w : Work) (h top : ℕ) → h ≡ suc top → entriesOf w h ≡ entryAt (w .stack) (w .starts) (w .kinds) top ∷ entriesOf w top
@@ -87,163 +89,127 @@ module _ (n : ℕ) (few : n ≤ 128) (r tied free : Rel) (w : Work) (forward rev
       (omega arith, omega (arith, x .count-is, x .groups-few), omega arith, omega (arith, x .groups-few))
 
   todo-here : Todo n r (take (p .count) (w .fields)) (take (p .placed) forward) reverse (p .groups) (toPending top-of ∷ pend others)
-  todo-here = subst (λ es. Todo n r (take (p .count) (w .fields)) (take (p .placed) forward) reverse (p .groups) (pend es)) all-entries (x .todo)
+  todo-here = todo-same n r refl refl refl refl (ap pend (sym all-entries)) (x .todo)
 
   -- a single job
-  leaf-next : (j : ℕ) → members (top-of .set) ≡ j ∷ [] → r j j ≡ false → (q : Progress) → q .height + 1 ≡ p .height → q .count ≡ p .count + 1
-      → q .groups ≡ p .groups → q .placed ≡ p .placed + 1
-      → Shaping n r tied free (work (w .stack) (w .starts) (w .kinds) (w .sizes) (set (w .fields) (p .count) j)) (set forward (p .placed) j)
-      (set reverse (top-of .start) j) q
-  leaf-next j one irr q qh qc qg qp =
-      let same : q .height ≡ top = omega (arith, qh) in
-      let rm = room in
-      let es : entriesOf w (q .height) ≡ others = ap (entriesOf w) same in
-      record {
-        stacks = stacks-lower (w .stack) (w .starts) (w .kinds) (w .sizes) (p .height) (q .height) (omega (arith, qh)) (x .stacks);
-        fields-size = length-set (w .fields) (p .count) j ∙ x .fields-size;
-        forward-size = length-set forward (p .placed) j ∙ x .forward-size;
-        reverse-size = length-set reverse (top-of .start) j ∙ x .reverse-size;
-        every = subst (Every n tied free) (sym es) (top-ok .1);
-        whole = omega (arith, ap (λ l. jobsOf (setsOf l)) es, jobs-left, ap length one, qp);
-        groups-few = omega (arith, x .groups-few, qg, qp, qh);
-        count-is = omega (arith, x .count-is, qc, qg, qp);
-        fields-blank = blank-stored (w .fields) (p .count) (q .count) j 256 (omega (arith, rm .1)) qc (x .fields-blank);
-        forward-blank = blank-stored forward (p .placed) (q .placed) j 128 (omega (arith, rm .2)) qp (x .forward-blank);
-        reverse-blank = drop-set-lt n reverse (top-of .start) j (omega (arith, top-ok .0 .fits, top-ok .0 .some)) ∙ x .reverse-blank;
-        todo =
-            subst (λ l. Todo n r (take (q .count) (set (w .fields) (p .count) j)) (take (q .placed) (set forward (p .placed) j))
-            (set reverse (top-of .start) j) (q .groups) (pend l))
-            (sym es)
-            (subst (λ k. Todo n r (take (q .count) (set (w .fields) (p .count) j)) (take (q .placed) (set forward (p .placed) j))
-            (set reverse (top-of .start) j) k (pend others))
-            (sym qg)
-            (subst (λ l. Todo n r l (take (q .placed) (set forward (p .placed) j)) (set reverse (top-of .start) j) (p .groups) (pend others))
-            (sym (ap (λ k. take k (set (w .fields) (p .count) j)) qc ∙ stored (w .fields) (p .count) j (omega (arith, rm .1, x .fields-size))))
-            (subst (λ l. Todo n r (take (p .count) (w .fields) ++ (j ∷ [])) l (set reverse (top-of .start) j) (p .groups) (pend others))
-            (sym (ap (λ k. take k (set forward (p .placed) j)) qp ∙ stored forward (p .placed) j (omega (arith, rm .2, x .forward-size))))
-            (todo-leaf n r (take (p .count) (w .fields)) (take (p .placed) forward) reverse (p .groups) j (top-of .start) (pend others) irr
-            (subst (λ b. Todo n r (take (p .count) (w .fields)) (take (p .placed) forward) reverse (p .groups)
-            (record { block = b; start = top-of .start } ∷ pend others)) one todo-here)))));
-      }
-
   pub leaf-turn : Strict n r → {w′ : Work} {forward′ reverse′ : List ℕ} {q : Progress} → Leafed w forward reverse p w′ forward′ reverse′ q
       → Shaping n r tied free w′ forward′ reverse′ q
-  leaf-turn strict {w′ = w′} {forward′ = forward′} {reverse′ = reverse′} {q = q} l =
+  leaf-turn strict {forward′ = forward′} {reverse′ = reverse′} {q = q} l =
       let j = lead (top-of .set) in
-      let here = leaf-next j (single (top-of .set) (l .one)) (strict .irreflexive j (top-ok .0 .small j (lead-member (top-of .set) (top-ok .0 .some)))) q
-      (l .lower) (l .one-field) (l .no-group) (l .one-job) in
-      turn (sym (l .field)) (λ u. Shaping n r tied free u forward′ reverse′ q)
-      (turn (sym (l .ahead)) (λ f. Shaping n r tied free (work (w .stack) (w .starts) (w .kinds) (w .sizes) (set (w .fields) (p .count) j)) f reverse′ q)
-      (turn (sym (l .back))
-      (λ f. Shaping n r tied free (work (w .stack) (w .starts) (w .kinds) (w .sizes) (set (w .fields) (p .count) j)) (set forward (p .placed) j) f q)
-      here))
+      let one = single (top-of .set) (l .one) in
+      let lower : q .height ≡ top = omega (arith, l .lower) in
+      let es : entriesOf w (q .height) ≡ others = ap (entriesOf w) lower in
+      let m = room in
+      subst (λ u. Shaping n r tied free u forward′ reverse′ q) (sym (l .field))
+      (record {
+        stacks = stacks-lower (w .stack) (w .starts) (w .kinds) (w .sizes) (p .height) (q .height) (omega (arith, l .lower)) (x .stacks);
+        fields-size = length-set (w .fields) (p .count) j ∙ x .fields-size;
+        forward-size = ap length (l .ahead) ∙ length-set forward (p .placed) j ∙ x .forward-size;
+        reverse-size = ap length (l .back) ∙ length-set reverse (top-of .start) j ∙ x .reverse-size;
+        every = subst (Every n tied free) (sym es) (top-ok .1);
+        whole = omega (arith, ap (λ l. jobsOf (setsOf l)) es, jobs-left, ap length one, l .one-job);
+        groups-few = omega (arith, x .groups-few, l .no-group, l .one-job, l .lower);
+        count-is = omega (arith, x .count-is, l .one-field, l .no-group, l .one-job);
+        fields-blank = blank-stored (w .fields) (p .count) (q .count) j 256 (omega (arith, m .1)) (l .one-field) (x .fields-blank);
+        forward-blank =
+            ap (drop (q .placed)) (l .ahead) ∙ blank-stored forward (p .placed) (q .placed) j 128 (omega (arith, m .2)) (l .one-job) (x .forward-blank);
+        reverse-blank =
+            ap (drop n) (l .back) ∙ drop-set-lt n reverse (top-of .start) j (omega (arith, top-ok .0 .fits, top-ok .0 .some)) ∙ x .reverse-blank;
+        todo =
+            todo-same n r
+            (ap (λ k. take k (set (w .fields) (p .count) j)) (l .one-field) ∙ stored (w .fields) (p .count) j (omega (arith, m .1, x .fields-size)))
+            (ap₂ take (l .one-job) (l .ahead) ∙ stored forward (p .placed) j (omega (arith, m .2, x .forward-size)))
+            (l .back) (l .no-group) (ap pend es)
+            (todo-leaf n r (take (p .count) (w .fields)) (take (p .placed) forward) reverse (p .groups) j (top-of .start) (pend others)
+            (strict .irreflexive j (top-ok .0 .small j (lead-member (top-of .set) (top-ok .0 .some))))
+            (todo-same n r refl refl refl refl (ap (λ b. record { block = b; start = top-of .start } ∷ pend others) (sym one)) todo-here));
+      })
 
   -- a group of two parts or more
   module _ (under : Rel) (strict : Strict n r) (turned : (u v : ℕ) → under u v ≡ r v u)
-      (alike : Alike n r (closeOf (top-of .series) tied free) (top-of .series)) (found : List (List ℕ))
-      (split : Splits (closeOf (top-of .series) tied free) under (top-of .series) (top-of .set) found) (parts : List (List ℕ))
-      (these : parts ≡ laidOut (top-of .series) found) (two : 2 ≤ length parts) where
-    jobs-same : jobsOf parts ≡ length (members (top-of .set))
-    jobs-same =
-        ap jobsOf these
-        ∙ laid-sum (top-of .series) sizeOf found
-        ∙ splits-jobs (closeOf (top-of .series) tied free) under (top-of .series) found (top-of .set) split
+      (alike : Alike n r (closeOf (top-of .series) tied free) (top-of .series)) {parts : List (List ℕ)} {jobs : List ℕ} {count : ℕ}
+      {numbers numbers′ : List ℕ} (cut : Taken (closeOf (top-of .series) tied free) under (top-of .series) (top-of .set) parts jobs count numbers numbers′)
+      (two : 2 ≤ count) where
+    abbrev series : Bool
+    series = top-of .series
 
-    parts-ok : Each (PartOk n (closeOf (top-of .series) tied free)) parts
-    parts-ok =
-        subst (Each (PartOk n (closeOf (top-of .series) tied free))) (sym these)
-        (laid-each (top-of .series) (PartOk n (closeOf (top-of .series) tied free)) found
-        (splits-each n (closeOf (top-of .series) tied free) under (top-of .series) found (top-of .set) (top-ok .0 .small) few split))
+    abbrev near : Rel
+    near = closeOf series tied free
+
+    abbrev chosen : List (List ℕ)
+    chosen = take count parts
 
     abbrev size : ℕ
     size = length (members (top-of .set))
 
-    group-here : GroupOf (kindOf (top-of .series)) r (members (top-of .set)) (map members parts)
+    long : length chosen ≡ count
+    long = cut-count cut (omega (arith, top-ok .0 .fits))
+
+    parts-ok : Each (PartOk n near) chosen
+    parts-ok =
+        subst (Each (PartOk n near)) (sym (cut .these))
+        (laid-each series (PartOk n near) (cut .found) (splits-each n near under series (cut .found) (top-of .set) (top-ok .0 .small) few (cut .splits)))
+
+    group-here : GroupOf (kindOf series) r (members (top-of .set)) (map members chosen)
     group-here =
-        subst (λ ps. GroupOf (kindOf (top-of .series)) r (members (top-of .set)) (map members ps)) (sym these)
-        (splits-group n r (closeOf (top-of .series) tied free) under strict few (top-of .series) alike turned found (top-of .set) (top-ok .0 .small) split)
+        subst (λ ps. GroupOf (kindOf series) r (members (top-of .set)) (map members ps)) (sym (cut .these))
+        (splits-group n r near under strict few series alike turned (cut .found) (top-of .set) (top-ok .0 .small) (cut .splits))
 
     -- the field of the group, and its parts pending
-    todo-parts : (ps : List (List ℕ)) → 2 ≤ length ps → GroupOf (kindOf (top-of .series)) r (members (top-of .set)) (map members ps)
-        → Todo n r (take (p .count) (w .fields) ++ (groupToken (kindOf (top-of .series)) (length ps - 1) ∷ [])) (take (p .placed) forward) reverse
-        (suc (p .groups)) (spread (kindOf (top-of .series)) (top-of .start) (map members ps) ++ pend others)
+    todo-parts : (ps : List (List ℕ)) → length ps ≡ count → GroupOf (kindOf series) r (members (top-of .set)) (map members ps)
+        → Todo n r (take (p .count) (w .fields) ++ (groupToken (kindOf series) (count - 1) ∷ [])) (take (p .placed) forward) reverse (suc (p .groups))
+        (spread (kindOf series) (top-of .start) (map members ps) ++ pend others)
     todo-parts [] l g = absurd (omega arith)
     todo-parts (b ∷ []) l g = absurd (omega arith)
     todo-parts (b ∷ c ∷ ps) l g =
-        let e : suc (length (map members ps)) ≡ length (b ∷ c ∷ ps) - 1 = omega (arith, length-map ps members) in
-        subst
-        (λ k. Todo n r (take (p .count) (w .fields) ++ (groupToken (kindOf (top-of .series)) k ∷ [])) (take (p .placed) forward) reverse
-        (suc (p .groups)) (spread (kindOf (top-of .series)) (top-of .start) (map members (b ∷ c ∷ ps)) ++ pend others))
-        e
-        (todo-group n r (kindOf (top-of .series)) (take (p .count) (w .fields)) (take (p .placed) forward) reverse (p .groups) (top-of .start)
-        (members (top-of .set)) (members b) (members c) (map members ps) (pend others) g todo-here)
+        let e : count - 1 ≡ suc (length (map members ps)) = omega (arith, length-map ps members) in
+        todo-same n r (ap (λ k. take (p .count) (w .fields) ++ (groupToken (kindOf series) k ∷ [])) e) refl refl refl refl
+        (todo-group n r (kindOf series) (take (p .count) (w .fields)) (take (p .placed) forward) reverse (p .groups) (top-of .start) (members (top-of .set))
+        (members b) (members c) (map members ps) (pend others) g todo-here)
 
-    group-next : (w′ : Work) (q : Progress) → StacksOf w′ (q .height)
-        → entriesOf w′ (q .height) ≡ spreadOut (top-of .series) (top-of .start) size parts ++ others → q .height ≡ top + length parts
-        → q .count ≡ p .count + 1 → q .groups ≡ p .groups + 1 → q .placed ≡ p .placed
-        → Shaping n r tied free
-        (work (w′ .stack) (w′ .starts) (w′ .kinds) (w′ .sizes) (set (w .fields) (p .count) (groupField (top-of .series) (length parts - 1)))) forward reverse q
-    group-next w′ q z es qh qc qg qp =
-        let field = groupField (top-of .series) (length parts - 1) in
-        let rm = room in
+    pub group-turn : {w′ : Work} {q : Progress} → Grouped count parts w p w′ q → Shaping n r tied free w′ forward reverse q
+    group-turn {w′ = w′} {q = q} g =
+        let field = groupField series (count - 1) in
+        let jobs-same = cut-jobs cut in
+        let m = room in
         record {
-          stacks = z;
-          fields-size = length-set (w .fields) (p .count) field ∙ x .fields-size;
+          stacks = g .stacks;
+          fields-size = ap length (g .field) ∙ length-set (w .fields) (p .count) field ∙ x .fields-size;
           forward-size = x .forward-size;
           reverse-size = x .reverse-size;
           every =
-              subst (Every n tied free) (sym es)
-              (every-append n tied free (spreadOut (top-of .series) (top-of .start) size parts) others
-              (spread-every n tied free (top-of .series) (top-of .start) size (top-ok .0 .fits) parts parts-ok (omega (arith, jobs-same)))
+              subst (Every n tied free) (sym (g .these))
+              (every-append n tied free (spreadOut series (top-of .start) size chosen) others
+              (spread-every n tied free series (top-of .start) size (top-ok .0 .fits) chosen parts-ok (omega (arith, jobs-same)))
               (top-ok .1));
           whole =
               omega (
                 arith,
-                ap (λ l. jobsOf (setsOf l)) es,
-                jobs-append (spreadOut (top-of .series) (top-of .start) size parts) others,
-                jobs-spread (top-of .series) (top-of .start) size parts,
+                ap (λ l. jobsOf (setsOf l)) (g .these),
+                jobs-append (spreadOut series (top-of .start) size chosen) others,
+                jobs-spread series (top-of .start) size chosen,
                 jobs-same,
                 jobs-left,
-                qp,
+                g .no-job,
               );
-          groups-few = omega (arith, x .groups-few, qg, qp, qh, two);
-          count-is = omega (arith, x .count-is, qc, qg, qp);
-          fields-blank = blank-stored (w .fields) (p .count) (q .count) field 256 (omega (arith, rm .1)) qc (x .fields-blank);
-          forward-blank = ap (λ k. drop k forward) qp ∙ x .forward-blank ∙ ap (λ k. replicate (128 - k) 0) (sym qp);
+          groups-few = omega (arith, x .groups-few, g .one-group, g .no-job, g .level, two);
+          count-is = omega (arith, x .count-is, g .one-field, g .one-group, g .no-job);
+          fields-blank =
+              ap (drop (q .count)) (g .field)
+              ∙ blank-stored (w .fields) (p .count) (q .count) field 256 (omega (arith, m .1)) (g .one-field) (x .fields-blank);
+          forward-blank = ap (λ k. drop k forward) (g .no-job) ∙ x .forward-blank ∙ ap (λ k. replicate (128 - k) 0) (sym (g .no-job));
           reverse-blank = x .reverse-blank;
           todo =
-              subst (λ l. Todo n r (take (q .count) (set (w .fields) (p .count) field)) (take (q .placed) forward) reverse (q .groups) (pend l))
-              (sym es)
-              (subst (λ l. Todo n r (take (q .count) (set (w .fields) (p .count) field)) (take (q .placed) forward) reverse (q .groups) l)
-              (sym
-              (pend-append (spreadOut (top-of .series) (top-of .start) size parts) others
-              ∙ ap (λ l. l ++ pend others) (pend-spread (top-of .series) (top-of .start) size parts jobs-same)))
-              (turn (sym (qg ∙ add-one (p .groups)))
-              (λ k. Todo n r (take (q .count) (set (w .fields) (p .count) field)) (take (q .placed) forward) reverse k
-              (spread (kindOf (top-of .series)) (top-of .start) (map members parts) ++ pend others))
-              (turn (sym qp)
-              (λ k. Todo n r (take (q .count) (set (w .fields) (p .count) field)) (take k forward) reverse (suc (p .groups))
-              (spread (kindOf (top-of .series)) (top-of .start) (map members parts) ++ pend others))
-              (turn
-              (sym
-              (ap (λ k. take k (set (w .fields) (p .count) field)) qc
-              ∙ stored (w .fields) (p .count) field (omega (arith, rm .1, x .fields-size))
-              ∙ ap (λ k. take (p .count) (w .fields) ++ (k ∷ [])) (field-token (top-of .series) (length parts - 1))))
-              (λ l. Todo n r l (take (p .placed) forward) reverse (suc (p .groups))
-              (spread (kindOf (top-of .series)) (top-of .start) (map members parts) ++ pend others))
-              (todo-parts parts two group-here)))));
+              todo-same n r
+              (ap₂ take (g .one-field) (g .field)
+              ∙ stored (w .fields) (p .count) field (omega (arith, m .1, x .fields-size))
+              ∙ ap (λ k. take (p .count) (w .fields) ++ (k ∷ [])) (field-token series (count - 1)))
+              (ap (λ k. take k forward) (g .no-job)) refl (g .one-group ∙ add-one (p .groups))
+              (ap pend (g .these)
+              ∙ pend-append (spreadOut series (top-of .start) size chosen) others
+              ∙ ap (λ l. l ++ pend others) (pend-spread series (top-of .start) size chosen jobs-same))
+              (todo-parts chosen long group-here);
         }
-
-  pub group-turn : (under : Rel) → Strict n r → ((u v : ℕ) → under u v ≡ r v u) → Alike n r (closeOf (top-of .series) tied free) (top-of .series)
-      → {parts : List (List ℕ)} {jobs : List ℕ} {count : ℕ} {numbers numbers′ : List ℕ}
-      → Taken (closeOf (top-of .series) tied free) under (top-of .series) (top-of .set) parts jobs count numbers numbers′ → 2 ≤ count
-      → {w′ : Work} {q : Progress} → Grouped count parts w p w′ q → Shaping n r tied free w′ forward reverse q
-  group-turn under strict turned alike {parts = parts} {count = count} cut two {w′ = w′} {q = q} g =
-      let long : length (take count parts) ≡ count = cut-count cut (omega (arith, top-ok .0 .fits)) in
-      turn (sym (g .field ∙ ap (λ k. set (w .fields) (p .count) (groupField (top-of .series) (k - 1))) (sym long)))
-      (λ f. Shaping n r tied free (work (w′ .stack) (w′ .starts) (w′ .kinds) (w′ .sizes) f) forward reverse q)
-      (group-next under strict turned alike (cut .found) (cut .splits) (take count parts) (cut .these) (omega (arith, long)) w′ q (g .stacks) (g .these)
-      (omega (arith, long, g .level)) (g .one-field) (g .one-group) (g .no-job))
 
 -- zeros after some zeros
 pub drop-replicate : (i m : ℕ) → drop {A = ℕ} i (replicate m 0) ≡ replicate (m - i) 0
@@ -287,9 +253,8 @@ module _ (w : Work) (n : ℕ) (all : List ℕ) (flag : Bool) (few : n ≤ 128) (
         forward-blank = refl;
         reverse-blank = drop-replicate n 128;
         todo =
-            turn (sym es) (λ l. Todo n r [] [] (replicate 128 0) 0 (pend l))
-            (turn (sym is-all) (λ b. Todo n r [] [] (replicate 128 0) 0 (record { block = b; start = 0 } ∷ []))
-            (todo-all n r (replicate 128 0) (omega (arith, length-replicate {A = ℕ} 128 0))));
+            todo-same n r refl refl refl refl (ap pend es ∙ ap (λ b. record { block = b; start = 0 } ∷ []) is-all)
+            (todo-all n r (replicate 128 0) (omega (arith, length-replicate {A = ℕ} 128 0)));
       }
 
 -- nothing is left on the stack: the tree is written
@@ -300,7 +265,7 @@ shape-done n few r tied free strict w forward reverse p x e =
     let none : entriesOf w (p .height) ≡ [] = ap (entriesOf w) e in
     let (t, tells, spelt, ahead, back, number) =
     todo-none n r (take (p .count) (w .fields)) (take (p .placed) forward) reverse (p .groups)
-    (subst (λ es. Todo n r (take (p .count) (w .fields)) (take (p .placed) forward) reverse (p .groups) (pend es)) none (x .todo)) in
+    (todo-same n r refl refl refl refl (ap pend (sym none)) (x .todo)) in
     let means = tells-means n r t tells in
     let all : p .placed ≡ n = omega (arith, x .whole, ap (λ es. jobsOf (setsOf es)) none) in
     let (ec, ef) = whole-list (w .fields) (tokens t) (p .count) 256 (omega (arith, x .fields-size, x .count-is, x .groups-few)) (sym spelt) (x .fields-blank) in

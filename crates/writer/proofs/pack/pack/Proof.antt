@@ -54,7 +54,8 @@ loop-again c =
     let hours = s .args .hours .now in
     next (s .args .n) hours (s .args .fields .now) (l .bytes) (l .p) (l .i) (l .inv) (c .put-field .last .0) (c .put-field .result)
     (c .before .before .before .before .loop-test .taken)
-    (subst (λ x. Puts (fieldBits hours x) (l .bytes) (l .p) (c .put-field .last .0) (c .put-field .result)) (c .before .wide-u16 .ensures) (c .put-field .ensures))
+    (subst (λ x. Puts (fieldBits hours x) (l .bytes) (l .p) (c .put-field .last .0) (c .put-field .result)) (c .before .wide-u16 .ensures)
+    (c .put-field .ensures))
 
 finish-requires : tie.Need-finish-requires Inv-loop μ-loop
 finish-requires c κs =

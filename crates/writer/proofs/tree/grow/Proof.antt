@@ -75,7 +75,8 @@ loop-less c =
 loop-again : tie.Need-loop-again Inv-loop μ-loop
 loop-again c =
     let t = c .before .before .before in
-    (t .turn .ensures .1, turn-next (start t .pre .0 .1) (at t .loop .inv .1) (up t) (t .turn .ensures .0) (not-false (t .turn .result .ok) (c .before .if2 .left)))
+    let e = t .turn .ensures in
+    (e .1, turn-next (start t .pre .0 .1) (at t .loop .inv .1) (up t) (e .0) (not-false (t .turn .result .ok) (c .before .if2 .left)))
 
 shaped-requires : tie.Need-shaped-requires Inv-loop μ-loop
 shaped-requires c κs = tt
@@ -89,15 +90,4 @@ returns-2 c =
 pub grow-spec : {M : Type 1} → statement M
 grow-spec =
     tie.close
-    (tie.spec
-    Inv-loop
-    μ-loop
-    open-root-requires
-    loop-holds
-    turn-requires
-    no-shape-requires
-    returns
-    loop-less
-    loop-again
-    shaped-requires
-    returns-2)
+    (tie.spec Inv-loop μ-loop open-root-requires loop-holds turn-requires no-shape-requires returns loop-less loop-again shaped-requires returns-2)

@@ -130,14 +130,5 @@ returns-2 c =
 pub open-root-spec : {M : Type 1} → statement M
 open-root-spec =
     tie.close
-    (tie.spec
-    all-below-requires
-    split-requires
-    element-set-from-all
-    element-write-starts
-    element-write-kinds
-    cast-sizes
-    element-write-sizes
-    returns
-    spread-requires
-    returns-2)
+    (tie.spec all-below-requires split-requires element-set-from-all element-write-starts element-write-kinds cast-sizes element-write-sizes returns
+    spread-requires returns-2)

@@ -84,13 +84,5 @@ returns c =
 pub spread-spec : {M : Type 1} → statement M
 spread-spec =
     tie.close
-    (tie.spec
-    sub-top
-    element-copy-out-series
-    mul-start
-    element-copy-out-start
-    element-copy-out-wide-u8
-    wide-u8-requires
-    push-requires
-    put-group-requires
-    returns)
+    (tie.spec sub-top element-copy-out-series mul-start element-copy-out-start element-copy-out-wide-u8 wide-u8-requires push-requires
+    put-group-requires returns)

@@ -100,16 +100,5 @@ returns-3 c =
 pub turn-spec : {M : Type 1} → statement M
 turn-spec =
     tie.close
-    (tie.spec
-    sub-top
-    mul-s
-    element-copy-out-s
-    element-copy-out-wide-u8
-    wide-u8-requires
-    put-leaf-requires
-    returns
-    element-copy-out-series
-    split-as-requires
-    returns-2
-    spread-requires
-    returns-3)
+    (tie.spec sub-top mul-s element-copy-out-s element-copy-out-wide-u8 wide-u8-requires put-leaf-requires returns element-copy-out-series
+    split-as-requires returns-2 spread-requires returns-3)
