@@ -23,13 +23,13 @@ use Rattle.writer.specs.declared.tree.Progress.{Progress}
 use Rattle.writer.specs.Parts.{lead, Taken, closeOf}
 use Rattle.writer.specs.Shapes.{shape, shaped}
 use Rattle.writer.specs.Stack.{Entry, Stacks, entries, entryAt, jobsOf, spreadOut, groupField}
-use Rattle.writer.specs.Turns.{Work, StacksOf, entriesOf, topOf, Grouped, Leafed, allJobs, begun}
+use Rattle.writer.specs.Turns.{transpose, Tables, Work, StacksOf, entriesOf, topOf, Grouped, Leafed, allJobs, begun}
 use Rattle.writer.proofs.Stores.{stored, blank-stored, whole-list}
 use Rattle.writer.proofs.Worklist.{Pending, Todo, spread, todo-leaf, todo-group, todo-none, todo-all, GroupOf}
-use Rattle.writer.proofs.Groups.{kindOf, Alike, splits-group}
+use Rattle.writer.proofs.Groups.{kindOf, splits-group}
 use Rattle.writer.proofs.Stacking.{entry-same, stacks-lower, stacks-set}
 use Rattle.writer.proofs.Leads.{lead-member, single}
-use Rattle.writer.proofs.Roots.{cut-count, cut-jobs}
+use Rattle.writer.proofs.Roots.{alike, cut-count, cut-jobs}
 use Rattle.writer.proofs.Entries.{EntryOk, Every, every-append, jobs-append, jobs-spread, entries-few, toPending, pend}
 use Rattle.writer.proofs.Entries.{pend-append, pend-spread, field-token, splits-each, spread-every, PartOk, laid-each, setsOf}
 use Rattle.poset.proofs.Laying.{Each}
@@ -58,8 +58,11 @@ top-entry : (w : Work) (h top : ℕ) → h ≡ suc top → entriesOf w h ≡ ent
 unfolding entries
 top-entry w h top e = ap (entriesOf w) e
 
-module _ (n : ℕ) (few : n ≤ 128) (r tied free : Rel) (w : Work) (forward reverse : List ℕ) (p : Progress)
-    (x : Shaping n r tied free w forward reverse p) (up : 0 < p .height) where
+module _ {n : ℕ} {under tied free : Rel} (t : Tables n under tied free) {w : Work} {forward reverse : List ℕ} {p : Progress}
+    (x : Shaping n (transpose under) tied free w forward reverse p) (up : 0 < p .height) where
+  abbrev r : Rel
+  r = transpose under
+
   abbrev top : ℕ
   top = p .height - 1
 
@@ -86,15 +89,16 @@ module _ (n : ℕ) (few : n ≤ 128) (r tied free : Rel) (w : Work) (forward rev
       let some = top-ok .0 .some in
       let left = jobs-left in
       let low = top-few in
+      let few = t .few in
       (omega arith, omega (arith, x .count-is, x .groups-few), omega arith, omega (arith, x .groups-few))
 
   todo-here : Todo n r (take (p .count) (w .fields)) (take (p .placed) forward) reverse (p .groups) (toPending top-of ∷ pend others)
   todo-here = todo-same n r refl refl refl refl (ap pend (sym all-entries)) (x .todo)
 
   -- a single job
-  pub leaf-turn : Strict n r → {w′ : Work} {forward′ reverse′ : List ℕ} {q : Progress} → Leafed w forward reverse p w′ forward′ reverse′ q
+  pub leaf-turn : {w′ : Work} {forward′ reverse′ : List ℕ} {q : Progress} → Leafed w forward reverse p w′ forward′ reverse′ q
       → Shaping n r tied free w′ forward′ reverse′ q
-  leaf-turn strict {forward′ = forward′} {reverse′ = reverse′} {q = q} l =
+  leaf-turn {forward′ = forward′} {reverse′ = reverse′} {q = q} l =
       let j = lead (top-of .set) in
       let one = single (top-of .set) (l .one) in
       let lower : q .height ≡ top = omega (arith, l .lower) in
@@ -112,24 +116,22 @@ module _ (n : ℕ) (few : n ≤ 128) (r tied free : Rel) (w : Work) (forward rev
         count-is = omega (arith, x .count-is, l .one-field, l .no-group, l .one-job);
         fields-blank = blank-stored (w .fields) (p .count) (q .count) j 256 (omega (arith, m .1)) (l .one-field) (x .fields-blank);
         forward-blank =
-            ap (drop (q .placed)) (l .ahead) ∙ blank-stored forward (p .placed) (q .placed) j 128 (omega (arith, m .2)) (l .one-job) (x .forward-blank);
+            ap (drop (q .placed)) (l .ahead) ∙ blank-stored forward (p .placed) (q .placed) j 128 (omega (arith, m .2, t .few)) (l .one-job) (x .forward-blank);
         reverse-blank =
             ap (drop n) (l .back) ∙ drop-set-lt n reverse (top-of .start) j (omega (arith, top-ok .0 .fits, top-ok .0 .some)) ∙ x .reverse-blank;
         todo =
             todo-same n r
             (ap (λ k. take k (set (w .fields) (p .count) j)) (l .one-field) ∙ stored (w .fields) (p .count) j (omega (arith, m .1, x .fields-size)))
-            (ap₂ take (l .one-job) (l .ahead) ∙ stored forward (p .placed) j (omega (arith, m .2, x .forward-size)))
+            (ap₂ take (l .one-job) (l .ahead) ∙ stored forward (p .placed) j (omega (arith, m .2, x .forward-size, t .few)))
             (l .back) (l .no-group) (ap pend es)
             (todo-leaf n r (take (p .count) (w .fields)) (take (p .placed) forward) reverse (p .groups) j (top-of .start) (pend others)
-            (strict .irreflexive j (top-ok .0 .small j (lead-member (top-of .set) (top-ok .0 .some))))
+            (t .strict .irreflexive j (top-ok .0 .small j (lead-member (top-of .set) (top-ok .0 .some))))
             (todo-same n r refl refl refl refl (ap (λ b. record { block = b; start = top-of .start } ∷ pend others) (sym one)) todo-here));
       })
 
   -- a group of two parts or more
-  module _ (under : Rel) (strict : Strict n r) (turned : (u v : ℕ) → under u v ≡ r v u)
-      (alike : Alike n r (closeOf (top-of .series) tied free) (top-of .series)) {parts : List (List ℕ)} {jobs : List ℕ} {count : ℕ}
-      {numbers numbers′ : List ℕ} (cut : Taken (closeOf (top-of .series) tied free) under (top-of .series) (top-of .set) parts jobs count numbers numbers′)
-      (two : 2 ≤ count) where
+  module _ {parts : List (List ℕ)} {jobs : List ℕ} {count : ℕ} {numbers numbers′ : List ℕ}
+      (cut : Taken (closeOf (top-of .series) tied free) under (top-of .series) (top-of .set) parts jobs count numbers numbers′) (two : 2 ≤ count) where
     abbrev series : Bool
     series = top-of .series
 
@@ -143,17 +145,17 @@ module _ (n : ℕ) (few : n ≤ 128) (r tied free : Rel) (w : Work) (forward rev
     size = length (members (top-of .set))
 
     long : length chosen ≡ count
-    long = cut-count cut (omega (arith, top-ok .0 .fits))
+    long = cut-count cut (omega (arith, top-ok .0 .fits, t .few))
 
     parts-ok : Each (PartOk n near) chosen
     parts-ok =
         subst (Each (PartOk n near)) (sym (cut .these))
-        (laid-each series (PartOk n near) (cut .found) (splits-each n near under series (cut .found) (top-of .set) (top-ok .0 .small) few (cut .splits)))
+        (laid-each series (PartOk n near) (cut .found) (splits-each n near under series (cut .found) (top-of .set) (top-ok .0 .small) (t .few) (cut .splits)))
 
     group-here : GroupOf (kindOf series) r (members (top-of .set)) (map members chosen)
     group-here =
         subst (λ ps. GroupOf (kindOf series) r (members (top-of .set)) (map members ps)) (sym (cut .these))
-        (splits-group n r near under strict few series alike turned (cut .found) (top-of .set) (top-ok .0 .small) (cut .splits))
+        (splits-group n r near under (t .strict) (t .few) series (alike t series) (λ u v. refl) (cut .found) (top-of .set) (top-ok .0 .small) (cut .splits))
 
     -- the field of the group, and its parts pending
     todo-parts : (ps : List (List ℕ)) → length ps ≡ count → GroupOf (kindOf series) r (members (top-of .set)) (map members ps)
@@ -258,22 +260,24 @@ module _ (w : Work) (n : ℕ) (all : List ℕ) (flag : Bool) (few : n ≤ 128) (
       }
 
 -- nothing is left on the stack: the tree is written
-pub shape-done : (n : ℕ) → n ≤ 128 → (r tied free : Rel) → Strict n r → (w : Work) (forward reverse : List ℕ) (p : Progress)
-    → Shaping n r tied free w forward reverse p → p .height ≡ 0 → shaped p (w .fields) forward reverse ≡ shape (treeOf n r)
+pub shape-done : {n : ℕ} {under tied free : Rel} → Tables n under tied free → {w : Work} {forward reverse : List ℕ} {p : Progress}
+    → Shaping n (transpose under) tied free w forward reverse p → p .height ≡ 0
+    → shaped p (w .fields) forward reverse ≡ shape (treeOf n (transpose under))
 unfolding entries
-shape-done n few r tied free strict w forward reverse p x e =
+shape-done {n = n} {under = under} t {w = w} {forward = forward} {reverse = reverse} {p = p} x e =
+    let r = transpose under in
     let none : entriesOf w (p .height) ≡ [] = ap (entriesOf w) e in
-    let (t, tells, spelt, ahead, back, number) =
+    let (made, tells, spelt, ahead, back, number) =
     todo-none n r (take (p .count) (w .fields)) (take (p .placed) forward) reverse (p .groups)
     (todo-same n r refl refl refl refl (ap pend (sym none)) (x .todo)) in
-    let means = tells-means n r t tells in
+    let means = tells-means n r made tells in
     let all : p .placed ≡ n = omega (arith, x .whole, ap (λ es. jobsOf (setsOf es)) none) in
-    let (ec, ef) = whole-list (w .fields) (tokens t) (p .count) 256 (omega (arith, x .fields-size, x .count-is, x .groups-few)) (sym spelt) (x .fields-blank) in
-    let (l, eo) = whole-list forward (leaves t) (p .placed) 128 (omega (arith, x .forward-size)) (sym ahead) (x .forward-blank) in
-    let (m, er) = whole-list reverse (reversed t) n 128 (omega (arith, x .reverse-size)) back (x .reverse-blank) in
+    let (ec, ef) = whole-list (w .fields) (tokens made) (p .count) 256 (omega (arith, x .fields-size, x .count-is, x .groups-few)) (sym spelt) (x .fields-blank) in
+    let (l, eo) = whole-list forward (leaves made) (p .placed) 128 (omega (arith, x .forward-size)) (sym ahead) (x .forward-blank) in
+    let (m, er) = whole-list reverse (reversed made) n 128 (omega (arith, x .reverse-size)) back (x .reverse-blank) in
     let eg = sym number in
     (λ i. record { ok = true; fields = ef i; count = ec i; groups = eg i; forward = eo i; reverse = er i })
-    ∙ ap shape (sym (tree-of-means n r t (means .0) (means .1)))
+    ∙ ap shape (sym (tree-of-means n r made (means .0) (means .1)))
 
 -- an N: no tree
 pub no-tree : (n : ℕ) (r : Rel) → Strict n r → HasN n r → treeOf n r ≡ none

@@ -15,32 +15,21 @@ use Rattle.relation.specs.Table.{has, members}
 use Rattle.writer.specs.declared.tree.Progress.{Progress}
 use Rattle.writer.specs.Parts.{Taken, closeOf}
 use Rattle.writer.specs.Stack.{Entry}
-use Rattle.writer.specs.Turns.{transpose, Tables, Work, StacksOf, topOf, SpreadRoom, Rooted, TurnRoom, Turned, put, opens, stays, allJobs, begun}
-use Rattle.writer.proofs.Roots.{members-all, root-cut, cut-taken, cut-jobs, cut-joined, stuck, alike}
+use Rattle.writer.specs.Turns.{transpose, Tables, Work, StacksOf, topOf, TopRoom, SpreadRoom, Rooted, Turned, put, opens, stays, allJobs, begun}
+use Rattle.writer.proofs.Roots.{members-all, root-cut, cut-jobs, cut-joined, stuck}
 use Rattle.writer.proofs.Shaping.{Shaping, top-ok, room, leaf-turn, group-turn, all-size, first-entry, first-stacks, shape-start, no-tree}
 
 -- a set taken apart has room for its parts
-pub spread-room : {w : Work} {p : Progress} → TurnRoom w p → {close under : Rel} {flag : Bool} {parts : List (List ℕ)} {jobs : List ℕ} {count : ℕ}
+pub spread-room : {w : Work} {p : Progress} → TopRoom w p → {close under : Rel} {flag : Bool} {parts : List (List ℕ)} {jobs : List ℕ} {count : ℕ}
     {numbers numbers′ : List ℕ} → Taken close under flag (topOf w p .set) parts jobs count numbers numbers′ → 0 < count → SpreadRoom count parts jobs w p
-spread-room m cut some =
-    record {
-      stacks = m .stacks;
-      up = m .up;
-      sized = cut .sized;
-      some = some;
-      level = omega (arith, m .level, cut .few);
-      fits = m .fits;
-      same-jobs = cut-jobs cut;
-      few-fields = m .few-fields;
-      few-groups = m .few-groups;
-    }
+spread-room m cut some = record { top = m; sized = cut .sized; some = some; few = cut .few; same-jobs = cut-jobs cut }
 
 -- all jobs below n
 module _ (w : Work) (n : ℕ) (all : List ℕ) (flag : Bool) (few : n ≤ 128) (is-all : (v : ℕ) → has all v ≡ ltb v n) (z : StacksOf w 0) where
   top-is : topOf (allJobs w n all flag) begun ≡ record { set = all; start = 0; series = flag }
   top-is = first-entry w n all flag few (members-all all n few is-all) z
 
-  pub root-room : 0 < n → TurnRoom (allJobs w n all flag) begun
+  pub root-room : 0 < n → TopRoom (allJobs w n all flag) begun
   root-room pos =
       let same = ap (λ (e : Entry). length (members (e .set))) top-is in
       let size = all-size w n all flag few (members-all all n few is-all) z in
@@ -68,28 +57,26 @@ module _ (w : Work) (n : ℕ) (all : List ℕ) (flag : Bool) (few : n ≤ 128) (
 module _ {n : ℕ} {under tied free : Rel} (t : Tables n under tied free) where
   pub root-shaping : 0 < n → {w w′ : Work} {q : Progress} → Rooted n free under w w′ q → StacksOf w 0 → w .fields ≡ replicate 256 0
       → Shaping n (transpose under) tied free w′ (replicate 128 0) (replicate 128 0) q
-  root-shaping pos {w = w} {w′ = w′} {q = q} x z blank =
+  root-shaping pos {w = w} x z blank =
       let all = x .all in
-      let flag = ltb 1 (x .count) in
+      let cut = x .split .taken in
+      let flag = ltb 1 (x .split .count) in
       let first = shape-start w n all flag (t .few) (members-all all n (t .few) (x .is-all)) z (transpose under) tied free
-      (root-cut n pos (t .few) (transpose under) tied free under (t .strict) (λ u v. refl) (t .tied-is) (t .free-is) all (x .is-all) (x .cut)) blank in
-      elim (decLt 1 (x .count)) [
+      (root-cut t pos all (x .is-all) cut) blank in
+      elim (decLt 1 (x .split .count)) [
         | yes l ↦
-            group-turn n (t .few) (transpose under) tied free (allJobs w n all flag) (replicate 128 0) (replicate 128 0) begun first (omega arith) under
-            (t .strict) (λ u v. refl) (alike n (t .few) (transpose under) tied free under (t .strict) (λ u v. refl) (t .tied-is) (t .free-is)
-            (topOf (allJobs w n all flag) begun .series))
-            (root-taken w n all flag (t .few) (x .is-all) z tied free under (lt-true 1 (x .count) l) (cut-taken (x .cut) (x .sized) (x .numbered)))
-            l (x .apart l)
+            group-turn t first (omega arith)
+            (root-taken w n all flag (t .few) (x .is-all) z tied free under (lt-true 1 (x .split .count) l) cut) l (x .apart l)
         | no l ↦
             let same = x .whole (omega arith) in
             subst₂ (λ u p. Shaping n (transpose under) tied free u (replicate 128 0) (replicate 128 0) p) (sym (same .0)) (sym (same .1)) first
       ]
 
   module _ {w : Work} {forward reverse : List ℕ} {p : Progress} (x : Shaping n (transpose under) tied free w forward reverse p) (up : 0 < p .height) where
-    pub turn-room : TurnRoom w p
+    pub turn-room : TopRoom w p
     turn-room =
-        let ok = top-ok n (t .few) (transpose under) tied free w forward reverse p x up .0 in
-        let m = room n (t .few) (transpose under) tied free w forward reverse p x up in
+        let ok = top-ok t x up .0 in
+        let m = room t x up in
         let few = t .few in
         record {
           stacks = x .stacks;
@@ -106,12 +93,9 @@ module _ {n : ℕ} {under tied free : Rel} (t : Tables n under tied free) where
     module _ {w′ : Work} {forward′ reverse′ : List ℕ} {q : Progress} where
       pub turn-next : {ok : Bool} → Turned tied free under w forward reverse p w′ forward′ reverse′ q ok → ok ≡ true
           → Shaping n (transpose under) tied free w′ forward′ reverse′ q
-      turn-next (put l) e = leaf-turn n (t .few) (transpose under) tied free w forward reverse p x up (t .strict) l
+      turn-next (put l) e = leaf-turn t x up l
       turn-next (opens a two g ahead back) e =
-          subst₂ (λ f b. Shaping n (transpose under) tied free w′ f b q) (sym ahead) (sym back)
-          (group-turn n (t .few) (transpose under) tied free w forward reverse p x up under (t .strict) (λ u v. refl)
-          (alike n (t .few) (transpose under) tied free under (t .strict) (λ u v. refl) (t .tied-is) (t .free-is) (topOf w p .series))
-          (a .taken) two g)
+          subst₂ (λ f b. Shaping n (transpose under) tied free w′ f b q) (sym ahead) (sym back) (group-turn t x up (a .taken) two g)
       turn-next (stays a one more) e = absurd (clash e refl)
 
       -- one field more
@@ -121,12 +105,11 @@ module _ {n : ℕ} {under tied free : Rel} (t : Tables n under tied free) where
       turn-more (stays a one more) e = absurd (clash e refl)
 
       -- there is no tree
-      pub turn-none : {ok : Bool} → Turned tied free under w forward reverse p w′ forward′ reverse′ q ok → ok ≡ false → treeOf n (transpose under) ≡ none
+      pub turn-none : {ok : Bool} → Turned tied free under w forward reverse p w′ forward′ reverse′ q ok → ok ≡ false
+          → treeOf n (transpose under) ≡ none
       turn-none (put l) e = absurd (clash refl e)
       turn-none (opens a two g ahead back) e = absurd (clash refl e)
       turn-none (stays a one more) e =
-          let top = top-ok n (t .few) (transpose under) tied free w forward reverse p x up .0 in
+          let top = top-ok t x up .0 in
           let few = t .few in
-          no-tree n (transpose under) (t .strict)
-          (stuck n (t .few) (transpose under) tied free under (t .strict) (λ u v. refl) (t .tied-is) (t .free-is) (topOf w p) top more
-          (cut-joined (a .taken) (omega (arith, top .fits)) one (top .some)))
+          no-tree n (transpose under) (t .strict) (stuck t (topOf w p) top more (cut-joined (a .taken) (omega (arith, top .fits)) one (top .some)))

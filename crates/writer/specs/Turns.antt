@@ -9,7 +9,7 @@ use lib.ListN.{take, set}
 use Rattle.poset.specs.Order.{Rel, Strict, comparable, incomparable}
 use Rattle.relation.specs.Table.{has}
 use Rattle.writer.specs.declared.tree.Progress.{Progress}
-use Rattle.writer.specs.Parts.{sizeOf, lead, Jobs, Partial, Cut, Sized, Numbered, Taken, closeOf}
+use Rattle.writer.specs.Parts.{sizeOf, lead, Jobs, Partial, Sized, Taken, closeOf}
 use Rattle.writer.specs.Stack.{Entry, Stacks, entries, entryAt, jobsOf, opened, groupField}
 
 abbrev pub transpose : Rel → Rel
@@ -43,17 +43,25 @@ entriesOf w h = entries (w .stack) (w .starts) (w .kinds) h
 abbrev pub topOf : Work → Progress → Entry
 topOf w p = entryAt (w .stack) (w .starts) (w .kinds) (p .height - 1)
 
--- there is room for the parts of the top entry in its place, and for its field
-pub record SpreadRoom (count : ℕ) (parts : List (List ℕ)) (jobs : List ℕ) (w : Work) (p : Progress) : Type 0 where
+-- there is a top entry, and room for what becomes of it
+pub record TopRoom (w : Work) (p : Progress) : Type 0 where
   pub stacks : StacksOf w (p .height)
   pub up : 0 < p .height
-  pub sized : Sized count parts jobs
-  pub some : 0 < count
-  pub level : p .height - 1 + count ≤ 128
+  pub some : 0 < sizeOf (topOf w p .set)
+  pub small : Jobs (topOf w p .set)
+  pub level : p .height - 1 + sizeOf (topOf w p .set) ≤ 128
   pub fits : topOf w p .start + sizeOf (topOf w p .set) ≤ 128
-  pub same-jobs : jobsOf (take count parts) ≡ sizeOf (topOf w p .set)
   pub few-fields : p .count < 256
   pub few-groups : p .groups < 256
+  pub few-jobs : p .placed < 128
+
+-- the parts of the top entry may take its place
+pub record SpreadRoom (count : ℕ) (parts : List (List ℕ)) (jobs : List ℕ) (w : Work) (p : Progress) : Type 0 where
+  pub top : TopRoom w p
+  pub sized : Sized count parts jobs
+  pub some : 0 < count
+  pub few : count ≤ sizeOf (topOf w p .set)
+  pub same-jobs : jobsOf (take count parts) ≡ sizeOf (topOf w p .set)
 
 -- the top entry has become a group: its field, and its parts in its place
 pub record Grouped (count : ℕ) (parts : List (List ℕ)) (w : Work) (p : Progress) (w′ : Work) (q : Progress) : Type 0 where
@@ -76,6 +84,19 @@ pub record Leafed (w : Work) (forward reverse : List ℕ) (p : Progress) (w′ :
   pub no-group : q .groups ≡ p .groups
   pub one-job : q .placed ≡ p .placed + 1
 
+-- a set taken apart
+pub record Apart (near under : Rel) (series : Bool) (s : List ℕ) : Type 0 where
+  pub parts : List (List ℕ)
+  pub jobs : List ℕ
+  pub count : ℕ
+  pub numbers : List ℕ
+  pub numbers′ : List ℕ
+  pub taken : Taken near under series s parts jobs count numbers numbers′
+
+-- an entry taken apart as its kind asks
+abbrev pub ApartAs : Rel → Rel → Rel → Entry → Type 0
+ApartAs tied free under e = Apart (closeOf (e .series) tied free) under (e .series) (e .set)
+
 -- all jobs below n are on the stack, and nothing is written
 
 abbrev pub allJobs : Work → ℕ → List ℕ → Bool → Work
@@ -88,43 +109,15 @@ begun = record { height = 1; count = 0; groups = 0; placed = 0 }
 pub record Rooted (n : ℕ) (free under : Rel) (w w′ : Work) (q : Progress) : Type 0 where
   pub all : List ℕ
   pub is-all : (v : ℕ) → has all v ≡ ltb v n
-  pub parts : List (List ℕ)
-  pub jobs : List ℕ
-  pub count : ℕ
-  pub numbers : List ℕ
-  pub numbers′ : List ℕ
-  pub cut : Cut free under true all parts count
-  pub sized : Sized count parts jobs
-  pub numbered : Numbered all parts count numbers numbers′
-  pub apart : 2 ≤ count → Grouped count parts (allJobs w n all (ltb 1 count)) begun w′ q
-  pub whole : count < 2 → (w′ ≡ allJobs w n all (ltb 1 count)) × (q ≡ begun)
-
--- there is a top entry, and room for what becomes of it
-pub record TurnRoom (w : Work) (p : Progress) : Type 0 where
-  pub stacks : StacksOf w (p .height)
-  pub up : 0 < p .height
-  pub some : 0 < sizeOf (topOf w p .set)
-  pub small : Jobs (topOf w p .set)
-  pub level : p .height - 1 + sizeOf (topOf w p .set) ≤ 128
-  pub fits : topOf w p .start + sizeOf (topOf w p .set) ≤ 128
-  pub few-fields : p .count < 256
-  pub few-groups : p .groups < 256
-  pub few-jobs : p .placed < 128
-
--- an entry taken apart as its kind asks
-pub record Apart (tied free under : Rel) (e : Entry) : Type 0 where
-  pub parts : List (List ℕ)
-  pub jobs : List ℕ
-  pub count : ℕ
-  pub numbers : List ℕ
-  pub numbers′ : List ℕ
-  pub taken : Taken (closeOf (e .series) tied free) under (e .series) (e .set) parts jobs count numbers numbers′
+  pub split : Apart free under true all
+  pub apart : 2 ≤ split .count → Grouped (split .count) (split .parts) (allJobs w n all (ltb 1 (split .count))) begun w′ q
+  pub whole : split .count < 2 → (w′ ≡ allJobs w n all (ltb 1 (split .count))) × (q ≡ begun)
 
 -- one turn: the top entry is put as a job, or becomes a group; or it is not taken apart, and the writing cannot go on
 pub data Turned (tied free under : Rel) (w : Work) (forward reverse : List ℕ) (p : Progress) (w′ : Work) (forward′ reverse′ : List ℕ) (q : Progress)
     : Bool → Type 0 where
   put : Leafed w forward reverse p w′ forward′ reverse′ q → Turned tied free under w forward reverse p w′ forward′ reverse′ q true
-  opens : (a : Apart tied free under (topOf w p)) → 2 ≤ a .count → Grouped (a .count) (a .parts) w p w′ q → forward′ ≡ forward → reverse′ ≡ reverse
+  opens : (a : ApartAs tied free under (topOf w p)) → 2 ≤ a .count → Grouped (a .count) (a .parts) w p w′ q → forward′ ≡ forward → reverse′ ≡ reverse
       → Turned tied free under w forward reverse p w′ forward′ reverse′ q true
-  stays : (a : Apart tied free under (topOf w p)) → a .count < 2 → (sizeOf (topOf w p .set) ≡ 1 → ⊥)
+  stays : (a : ApartAs tied free under (topOf w p)) → a .count < 2 → (sizeOf (topOf w p .set) ≡ 1 → ⊥)
       → Turned tied free under w forward reverse p w′ forward′ reverse′ q false

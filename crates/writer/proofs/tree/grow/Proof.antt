@@ -85,7 +85,7 @@ returns-2 : tie.Need-returns-2 Inv-loop μ-loop
 returns-2 c =
     let l = c .before .before .before in
     let t = started (l .before) .pre .0 .1 in
-    c .shaped .ensures ∙ shape-done _ (t .few) _ _ _ (t .strict) _ _ _ _ (l .loop .inv .1) (omega (arith, c .before .if1 .left))
+    c .shaped .ensures ∙ shape-done t (l .loop .inv .1) (omega (arith, c .before .if1 .left))
 
 pub grow-spec : {M : Type 1} → statement M
 grow-spec =

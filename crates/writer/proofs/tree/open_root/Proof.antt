@@ -1,8 +1,9 @@
 -- `tree::open_root`: all jobs, taken apart as a series.
 use borrow.Author.Needs.{needs}
-use Prim.Native.Nat.{ℕ, _%_, _≤_, _<_}
+use Prim.Native.Nat.{ℕ, _%_}
 use mathlib.Core.Path.{_≡_, refl, sym, ap, subst, _∙_}
 use mathlib.Core.List.{List}
+use mathlib.Core.Bool.{true}
 use native.Mathlib.Nat.{mod-eq-of-lt}
 use native.Mathlib.Omega.{arith}
 use lib.Dec.{ltb}
@@ -11,7 +12,7 @@ use Rattle.poset.proofs.Laws.{ltb-true, lt-true}
 use Rattle.poset.proofs.Sums.{length-below}
 use Rattle.relation.specs.Table.{holds}
 use Rattle.writer.specs.declared.tree.Progress.{Progress}
-use Rattle.writer.specs.Turns.{Work, work, SpreadRoom, Grouped, Rooted, allJobs, begun}
+use Rattle.writer.specs.Turns.{Work, work, SpreadRoom, Grouped, Apart, allJobs, begun}
 use Rattle.writer.proofs.Roots.{members-all, cut-taken}
 use Rattle.writer.proofs.Turning.{spread-room, root-room, root-taken}
 use Rattle.writer.proofs.tree.open_root.Statement.{statement}
@@ -72,59 +73,56 @@ module _ (q : tie.After-split) where
       ap (λ k. work (set (lists .stack) 0 all) (set (lists .starts) 0 0) (set (lists .kinds) 0 (ltb 1 count)) (set (lists .sizes) 0 k) (lists .fields))
       (mod-eq-of-lt (omega (arith, s .pre .0)))
 
-  abbrev parts : List (List ℕ)
-  parts = q .split .last .1 .1 .1 .1 .1 .0
+  abbrev apart : Apart (holds (s .args .free .now)) (holds (s .args .under .now)) true all
+  apart =
+      let e = q .split .ensures in
+      record { parts = _; jobs = _; count = count; numbers = _; numbers′ = _; taken = cut-taken (e .0) (e .1 .0) (e .1 .1) }
 
-  as-grouped : {w : Work} {p : Progress} → Grouped count parts short begun w p → Grouped count parts (allJobs lists n all (ltb 1 count)) begun w p
-  as-grouped {w = w} {p = p} = subst (λ u. Grouped count parts u begun w p) as-all
+  as-grouped : {w : Work} {p : Progress} → Grouped count (apart .parts) short begun w p
+      → Grouped count (apart .parts) (allJobs lists n all (ltb 1 count)) begun w p
+  as-grouped {w = w} {p = p} = subst (λ u. Grouped count (apart .parts) u begun w p) as-all
 
-  rooted : {w : Work} {p : Progress} → (2 ≤ count → Grouped count parts (allJobs lists n all (ltb 1 count)) begun w p)
-      → (count < 2 → (w ≡ allJobs lists n all (ltb 1 count)) × (p ≡ begun))
-      → Rooted n (holds (s .args .free .now)) (holds (s .args .under .now)) lists w p
-  rooted apart whole =
-      record {
-        all = all;
-        is-all = q .before .before .before .before .all-below .ensures;
-        parts = parts;
-        jobs = _;
-        count = count;
-        numbers = _;
-        numbers′ = _;
-        cut = q .split .ensures .0;
-        sized = q .split .ensures .1 .0;
-        numbered = q .split .ensures .1 .1;
-        apart = apart;
-        whole = whole;
-      }
+  lengths : (length (apart .parts) ≡ 128) × (length (apart .jobs) ≡ 128) × (length (apart .numbers′) ≡ 128)
+  lengths = let e = apart .taken in (e .sized .parts-length, e .sized .jobs-length, e .numbered .size)
 
 returns : tie.Need-returns
 returns c =
-    let q = c .before in
-    let e = q .split .ensures in
-    (rooted q (λ l. absurd (omega (arith, c .if1 .taken))) (λ l. (as-all q, refl)), (e .0 .size, e .1 .0 .jobs-length, e .1 .1 .size))
+    let q = c .before in (
+      record {
+        all = all q;
+        is-all = q .before .before .before .before .all-below .ensures;
+        split = apart q;
+        apart = λ l. absurd (omega (arith, c .if1 .taken));
+        whole = λ l. (as-all q, refl);
+      },
+      lengths q,
+    )
 
 spread-requires : tie.Need-spread-requires
 spread-requires c κs =
     let q = c .before .before .before .before .before .before .before .before in
     let two = c .before .before .before .before .before .before .before .if1 .left in
-    let e = q .split .ensures in
-    let is-all = q .before .before .before .before .all-below .ensures in
     let few = s q .pre .0 .1 in
     let flag = ltb 1 (count q) in
     let free = holds (s q .args .free .now) in
-    subst (λ w. SpreadRoom (count q) (parts q) (q .split .last .1 .1 .1 .1 .1 .1 .0) w begun) (sym (as-all q))
-    (spread-room (root-room (lists q) (n q) (all q) flag few is-all (s q .pre .1 .1 .1) (s q .pre .0 .0))
-    (root-taken (lists q) (n q) (all q) flag few is-all (s q .pre .1 .1 .1) free free (holds (s q .args .under .now))
-    (lt-true 1 (count q) (omega (arith, two))) (cut-taken (e .0) (e .1 .0) (e .1 .1)))
+    subst (λ w. SpreadRoom (count q) (apart q .parts) (apart q .jobs) w begun) (sym (as-all q))
+    (spread-room (root-room (lists q) (n q) (all q) flag few (q .before .before .before .before .all-below .ensures) (s q .pre .1 .1 .1) (s q .pre .0 .0))
+    (root-taken (lists q) (n q) (all q) flag few (q .before .before .before .before .all-below .ensures) (s q .pre .1 .1 .1) free free (holds (s q .args .under .now))
+    (lt-true 1 (count q) (omega (arith, two))) (apart q .taken))
     (omega (arith, two)))
 
 returns-2 : tie.Need-returns-2
 returns-2 c =
     let q = c .before .before .before .before .before .before .before .before .before in
-    let two = c .before .before .before .before .before .before .before .before .if1 .left in
-    let e = q .split .ensures in (
-      rooted q (λ l. as-grouped q (c .spread .ensures)) (λ l. absurd (omega (arith, two))),
-      (e .0 .size, e .1 .0 .jobs-length, e .1 .1 .size),
+    let two = c .before .before .before .before .before .before .before .before .if1 .left in (
+      record {
+        all = all q;
+        is-all = q .before .before .before .before .all-below .ensures;
+        split = apart q;
+        apart = λ l. as-grouped q (c .spread .ensures);
+        whole = λ l. absurd (omega (arith, two));
+      },
+      lengths q,
     )
 
 pub open-root-spec : {M : Type 1} → statement M

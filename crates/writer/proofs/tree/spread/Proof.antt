@@ -17,7 +17,7 @@ started c = c .before .before .before .before .before
 
 -- the size that is kept is the set's
 whole : (c : tie.After-wide-u8) → c .wide-u8 .result ≡ length (members (getD (started c .args .stack .now) (started c .args .p .height - 1) []))
-whole c = c .wide-u8 .ensures .0 ∙ started c .pre .stacks .sized (started c .args .p .height - 1) (omega (arith, started c .pre .up))
+whole c = c .wide-u8 .ensures .0 ∙ started c .pre .top .stacks .sized (started c .args .p .height - 1) (omega (arith, started c .pre .top .up))
 
 sub-top : tie.Need-sub-top
 sub-top c = search needs
@@ -42,18 +42,19 @@ push-requires c κs =
     let w = c .before .before .before .before in
     let s = started w in
     let a = s .args in
-    let r = s .pre in (
-      (omega (arith, r .level), r .level, omega (arith, r .fits, whole w)),
+    let r = s .pre in
+    let m = r .top in (
+      (omega (arith, m .level, r .few), omega (arith, m .level, r .few), omega (arith, m .fits, whole w)),
       (
         (r .sized, r .same-jobs ∙ sym (whole w)),
-        stacks-lower (a .stack .now) (a .starts .now) (a .kinds .now) (a .sizes .now) (a .p .height) (a .p .height - 1) (omega arith) (r .stacks),
+        stacks-lower (a .stack .now) (a .starts .now) (a .kinds .now) (a .sizes .now) (a .p .height) (a .p .height - 1) (omega arith) (m .stacks),
       ),
     )
 
 put-group-requires : tie.Need-put-group-requires
 put-group-requires c κs =
     let r = started (c .before .before .before .before .before .before) .pre in
-    (r .some, omega (arith, r .level), r .few-fields, r .few-groups)
+    (r .some, omega (arith, r .top .level, r .few), r .top .few-fields, r .top .few-groups)
 
 returns : tie.Need-returns
 returns c =

@@ -6,7 +6,7 @@ use mathlib.Core.List.{[]}
 use native.Mathlib.Omega.{arith}
 use lib.ListN.{length, getD}
 use Rattle.relation.specs.Table.{members, holds}
-use Rattle.writer.specs.Turns.{work, topOf, Apart, put, opens, stays}
+use Rattle.writer.specs.Turns.{work, topOf, ApartAs, put, opens, stays}
 use Rattle.writer.proofs.Turning.{spread-room}
 use Rattle.writer.proofs.tree.turn.Statement.{statement}
 use Rattle.writer.proofs.tree.turn.Tie as tie
@@ -72,13 +72,12 @@ module _ (q : tie.After-split-as) where
   abbrev s : tie.Start
   s = started w
 
-  abbrev apart : Apart (holds (s .args .tied .now)) (holds (s .args .free .now)) (holds (s .args .under .now))
+  abbrev apart : ApartAs (holds (s .args .tied .now)) (holds (s .args .free .now)) (holds (s .args .under .now))
       (topOf (work (s .args .stack .now) (s .args .starts .now) (s .args .kinds .now) (s .args .sizes .now) (s .args .fields .now)) (s .args .p))
   apart = record { parts = _; jobs = _; count = _; numbers = _; numbers′ = _; taken = q .split-as .ensures }
 
-  lengths : (length (q .split-as .last .1 .1 .1 .1 .1 .1 .0) ≡ 128) × (length (q .split-as .last .1 .1 .1 .1 .1 .1 .1 .0) ≡ 128)
-      × (length (q .split-as .last .1 .1 .1 .1 .1 .1 .1 .1 .0) ≡ 128)
-  lengths = let e = q .split-as .ensures in (e .sized .parts-length, e .sized .jobs-length, e .numbered .size)
+  lengths : (length (apart .parts) ≡ 128) × (length (apart .jobs) ≡ 128) × (length (apart .numbers′) ≡ 128)
+  lengths = let e = apart .taken in (e .sized .parts-length, e .sized .jobs-length, e .numbered .size)
 
 returns-2 : tie.Need-returns-2
 returns-2 c =
