@@ -198,7 +198,8 @@ module _ {n : ℕ} {under tied free : Rel} (t : Tables n under tied free) (pos :
   far-tied x part p u v pu av pv =
       let lu = all-small u (p .within u pu) in
       let lv = all-small v av in
-      t .tied-is u v lu lv ∙ near-either series (transpose under) u v (λ e. clash (ap (has part) (sym e) ∙ pu) pv) (sym (t .free-is u v lu lv) ∙ p .far u v pu av pv)
+      t .tied-is u v lu lv
+      ∙ near-either series (transpose under) u v (λ e. clash (ap (has part) (sym e) ∙ pu) pv) (sym (t .free-is u v lu lv) ∙ p .far u v pu av pv)
 
   tied-back : (u v : ℕ) → has all u ≡ true → has all v ≡ true → tied u v ≡ true → tied v u ≡ true
   tied-back u v au av h =

@@ -272,7 +272,7 @@ shape-done {n = n} {under = under} t {w = w} {forward = forward} {reverse = reve
     (todo-same n r refl refl refl refl (ap pend (sym none)) (x .todo)) in
     let means = tells-means n r made tells in
     let all : p .placed ≡ n = omega (arith, x .whole, ap (λ es. jobsOf (setsOf es)) none) in
-    let (ec, ef) = whole-list (w .fields) (tokens made) (p .count) 256 (omega (arith, x .fields-size, x .count-is, x .groups-few)) (sym spelt) (x .fields-blank) in
+    let (ec, ef) = whole-list (w .fields) (tokens made) (p .count) 256 (omega (arith, x .count-is, x .groups-few)) (sym spelt) (x .fields-blank) in
     let (l, eo) = whole-list forward (leaves made) (p .placed) 128 (omega (arith, x .forward-size)) (sym ahead) (x .forward-blank) in
     let (m, er) = whole-list reverse (reversed made) n 128 (omega (arith, x .reverse-size)) back (x .reverse-blank) in
     let eg = sym number in

@@ -421,7 +421,7 @@ fn grow(
     shaped(p, fields, forward, reverse)
 }
 
-// All jobs become a series group if they come apart so.
+// The canonical tree of an order, if it has one: what the turns read of the order, and empty lists for them.
 pub fn shape_of(after: [[u64; 2]; 128], under: &[[u64; 2]; 128], n: usize) -> Shape
     requires { ⌜ (0 < n) × (n ≤ 128) ⌝ }
     requires { ⌜ Strict n (holds after) ⌝ }

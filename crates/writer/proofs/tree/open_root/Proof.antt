@@ -10,7 +10,7 @@ use lib.Dec.{ltb}
 use lib.ListN.{length, set}
 use Rattle.poset.proofs.Laws.{ltb-true, lt-true}
 use Rattle.poset.proofs.Sums.{length-below}
-use Rattle.relation.specs.Table.{holds}
+use Rattle.relation.specs.Table.{has, holds}
 use Rattle.writer.specs.declared.tree.Progress.{Progress}
 use Rattle.writer.specs.Turns.{Work, work, SpreadRoom, Grouped, Apart, allJobs, begun}
 use Rattle.writer.proofs.Roots.{members-all, cut-taken}
@@ -57,6 +57,9 @@ module _ (q : tie.After-split) where
   abbrev all : List ℕ
   all = q .before .before .before .before .all-below .result
 
+  is-all : (v : ℕ) → has all v ≡ ltb v n
+  is-all = q .before .before .before .before .all-below .ensures
+
   abbrev count : ℕ
   count = q .split .result
 
@@ -90,7 +93,7 @@ returns c =
     let q = c .before in (
       record {
         all = all q;
-        is-all = q .before .before .before .before .all-below .ensures;
+        is-all = is-all q;
         split = apart q;
         apart = λ l. absurd (omega (arith, c .if1 .taken));
         whole = λ l. (as-all q, refl);
@@ -106,8 +109,8 @@ spread-requires c κs =
     let flag = ltb 1 (count q) in
     let free = holds (s q .args .free .now) in
     subst (λ w. SpreadRoom (count q) (apart q .parts) (apart q .jobs) w begun) (sym (as-all q))
-    (spread-room (root-room (lists q) (n q) (all q) flag few (q .before .before .before .before .all-below .ensures) (s q .pre .1 .1 .1) (s q .pre .0 .0))
-    (root-taken (lists q) (n q) (all q) flag few (q .before .before .before .before .all-below .ensures) (s q .pre .1 .1 .1) free free (holds (s q .args .under .now))
+    (spread-room (root-room (lists q) (n q) (all q) flag few (is-all q) (s q .pre .1 .1 .1) (s q .pre .0 .0))
+    (root-taken (lists q) (n q) (all q) flag few (is-all q) (s q .pre .1 .1 .1) free free (holds (s q .args .under .now))
     (lt-true 1 (count q) (omega (arith, two))) (apart q .taken))
     (omega (arith, two)))
 
@@ -117,7 +120,7 @@ returns-2 c =
     let two = c .before .before .before .before .before .before .before .before .if1 .left in (
       record {
         all = all q;
-        is-all = q .before .before .before .before .all-below .ensures;
+        is-all = is-all q;
         split = apart q;
         apart = λ l. as-grouped q (c .spread .ensures);
         whole = λ l. absurd (omega (arith, two));
