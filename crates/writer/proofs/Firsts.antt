@@ -1,15 +1,12 @@
 -- Going down to a job that nothing of a set is before.
-use Prim.Native.Nat.{ℕ, _+_, _≤_, _<_}
-use mathlib.Core.Path.{_≡_, refl, sym, ap, _∙_}
-use mathlib.Core.List.{List, []}
-use mathlib.Core.Bool.{Bool, true, false, _&&_}
-use mathlib.Core.Logic.{⊎-elim}
-use native.Mathlib.Omega.{arith}
+use Prim.Native.Nat.{ℕ, _<_}
+use mathlib.Core.Path.{_≡_, sym, _∙_}
+use mathlib.Core.List.{List}
+use mathlib.Core.Bool.{true, false, _&&_}
 use lib.ListN.{length}
 use Rattle.poset.specs.Lists.{exists, below}
 use Rattle.poset.specs.Order.{Rel}
-use Rattle.poset.proofs.Laws.{decided, clash, false-unless, and-left, and-right, and-intro}
-use Rattle.poset.proofs.Sums.{bit}
+use Rattle.poset.proofs.Laws.{clash, false-unless, and-left, and-right, and-intro}
 use Rattle.relation.specs.Table.{has, members, Greatest}
 use Rattle.writer.specs.Parts.{Jobs, Partial, First}
 use Rattle.writer.proofs.Counting.{set-falls}

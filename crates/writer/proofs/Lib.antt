@@ -18,4 +18,5 @@ pub mod Rows
 pub mod Entries
 pub mod Roots
 pub mod Shaping
+pub mod Turning
 pub mod Spelling

@@ -3,7 +3,7 @@ use Prim.Native.Nat.{ℕ, _+_, _-_, _≤_, _<_}
 use mathlib.Core.Path.{_≡_, refl, sym, ap, ap₂, subst, fun-ext, _∙_}
 use mathlib.Core.List.{List, [], _∷_, _++_, append-nil, List·Memᴰ, List·Memᴰ·head, List·Memᴰ·tail}
 use mathlib.Core.Bool.{Bool, true, false, _&&_, _||_, not}
-use mathlib.Core.Logic.{_⊎_, ⊎-elim}
+use mathlib.Core.Logic.{⊎-elim}
 use native.Mathlib.Decide.{decLt}
 use native.Mathlib.Omega.{arith}
 use lib.Dec.{eqb, ltb}
@@ -25,6 +25,7 @@ use Rattle.poset.proofs.Connected.{connected-n}
 use Rattle.relation.specs.Table.{has, members, Least}
 use Rattle.writer.specs.Parts.{sizeOf, lead, Walk, start, next, Partial, PartOf, Splits, Cut, Sized, Leading, Numbered, Taken, bigger, closeOf}
 use Rattle.writer.specs.Stack.{Entry, jobsOf}
+use Rattle.writer.specs.Turns.{transpose, Tables}
 use Rattle.writer.proofs.Searching.{path-within}
 use Rattle.writer.proofs.Groups.{kindOf, Alike, joined-linked, members-sorted, of-members}
 use Rattle.writer.proofs.Leads.{lead-least}
@@ -45,17 +46,19 @@ few-parts close under flag s [] l some h = absurd (omega (arith, none-jobs s h))
 few-parts close under flag s (p ∷ []) l some h = one-part close under flag s p h
 few-parts close under flag s (p ∷ q ∷ ps) l some h = absurd (omega arith)
 
-module _ (n : ℕ) (few : n ≤ 128) (r tied free under : Rel) (strict : Strict n r) (turned : (u v : ℕ) → under u v ≡ r v u)
-    (tied-is : Alike n r tied false) (free-is : Alike n r free true) where
+module _ {n : ℕ} {under tied free : Rel} (t : Tables n under tied free) where
+  abbrev r : Rel
+  r = transpose under
+
   abbrev Small : List ℕ → Type 0
   Small s = (v : ℕ) → has s v ≡ true → v < n
 
   pub alike : (flag : Bool) → Alike n r (closeOf flag tied free) flag
-  alike true = free-is
-  alike false = tied-is
+  alike true = t .free-is
+  alike false = t .tied-is
 
   linked : (flag : Bool) (s : List ℕ) → Small s → JoinedBy (closeOf flag tied free) s → Linked (near (kindOf flag) r) (Of (members s))
-  linked flag s small j = joined-linked n r (closeOf flag tied free) under strict few flag (alike flag) turned s (j .0) small (j .1) (j .2)
+  linked flag s small j = joined-linked n r (closeOf flag tied free) under (t .strict) (t .few) flag (alike flag) (λ u v. refl) s (j .0) small (j .1) (j .2)
 
   both-linked : (flag : Bool) (s : List ℕ) → Small s → JoinedBy (closeOf flag tied free) s → JoinedBy (closeOf (not flag) tied free) s
       → (k : Kind) → Linked (near k r) (Of (members s))
@@ -72,7 +75,7 @@ module _ (n : ℕ) (few : n ≤ 128) (r tied free under : Rel) (strict : Strict 
       go [] q = absurd (omega (arith, ok .some, ap length q))
       go (x ∷ []) q = absurd (more (ap length q))
       go (x ∷ y ∷ zs) q =
-          connected-n n r strict x y zs
+          connected-n n r (t .strict) x y zs
           (subst Sorted q (members-sorted (e .set)))
           (λ u m. ok .small u (of-members (e .set) u (subst (λ l. Of l u) (sym q) m)))
           (λ k. subst (λ l. Linked (near k r) (Of l)) q (both-linked (e .series) (e .set) (ok .small) i (ok .joined) k))
@@ -182,13 +185,12 @@ module _ {close under : Rel} {flag : Bool} {s : List ℕ} {parts : List (List �
       few-parts close under flag s (cut .found) (omega (arith, cut-count few, ap length (cut .these), laid-count flag (cut .found))) some (cut .splits)
 
 -- the first entry: all jobs, a series if they split so, else what a series keeps together
-module _ (n : ℕ) (pos : 0 < n) (few : n ≤ 128) (r tied free under : Rel) (strict : Strict n r) (turned : (u v : ℕ) → under u v ≡ r v u)
-    (tied-is : Alike n r tied false) (free-is : Alike n r free true) (all : List ℕ) (is-all : (v : ℕ) → has all v ≡ ltb v n) where
+module _ {n : ℕ} {under tied free : Rel} (t : Tables n under tied free) (pos : 0 < n) (all : List ℕ) (is-all : (v : ℕ) → has all v ≡ ltb v n) where
   all-small : (v : ℕ) → has all v ≡ true → v < n
   all-small v q = ltb-true v n (sym (is-all v) ∙ q)
 
   all-size : length (members all) ≡ n
-  all-size = ap length (members-all all n few is-all) ∙ length-below n
+  all-size = ap length (members-all all n (t .few) is-all) ∙ length-below n
 
   -- a job of a part and one outside it are comparable
   far-tied : (x : ℕ) (part : List ℕ) → PartOf free all x part → (u v : ℕ) → has part u ≡ true → has all v ≡ true → has part v ≡ false
@@ -196,13 +198,14 @@ module _ (n : ℕ) (pos : 0 < n) (few : n ≤ 128) (r tied free under : Rel) (st
   far-tied x part p u v pu av pv =
       let lu = all-small u (p .within u pu) in
       let lv = all-small v av in
-      tied-is u v lu lv ∙ near-either series r u v (λ e. clash (ap (has part) (sym e) ∙ pu) pv) (sym (free-is u v lu lv) ∙ p .far u v pu av pv)
+      t .tied-is u v lu lv
+      ∙ near-either series (transpose under) u v (λ e. clash (ap (has part) (sym e) ∙ pu) pv) (sym (t .free-is u v lu lv) ∙ p .far u v pu av pv)
 
   tied-back : (u v : ℕ) → has all u ≡ true → has all v ≡ true → tied u v ≡ true → tied v u ≡ true
   tied-back u v au av h =
       let lu = all-small u au in
       let lv = all-small v av in
-      tied-is v u lv lu ∙ near-sym parallel r u v (sym (tied-is u v lu lv) ∙ h)
+      t .tied-is v u lv lu ∙ near-sym parallel (transpose under) u v (sym (t .tied-is u v lu lv) ∙ h)
 
   -- two parts of a series: all jobs are joined by comparability
   series-joined : (p q : List ℕ) (ps : List (List ℕ)) → Splits free under true all (p ∷ q ∷ ps) → JoinedBy tied all
@@ -241,10 +244,10 @@ module _ (n : ℕ) (pos : 0 < n) (few : n ≤ 128) (r tied free under : Rel) (st
       go (p ∷ q ∷ ps) h =
           subst (λ b. JoinedBy (closeOf (not b) tied free) all) (sym (lt-true 1 (length (p ∷ q ∷ ps)) (omega arith))) (series-joined p q ps h)
 
-  pub root-cut : {parts : List (List ℕ)} {count : ℕ} → Cut free under true all parts count
-      → EntryOk n tied free (record { set = all; start = 0; series = ltb 1 count })
-  root-cut {parts = parts} {count = count} cut =
-      root-ok (take count parts) (ltb 1 count) (ap (ltb 1) (sym (length-take-le count parts (omega (arith, cut .few, cut .size, all-size))))) (cut .these)
+  pub root-cut : {parts : List (List ℕ)} {jobs : List ℕ} {count : ℕ} {numbers numbers′ : List ℕ}
+      → Taken free under true all parts jobs count numbers numbers′ → EntryOk n tied free (record { set = all; start = 0; series = ltb 1 count })
+  root-cut {count = count} cut =
+      root-ok (cut .found) (ltb 1 count) (ap (ltb 1) (sym (cut-count cut (omega (arith, all-size))) ∙ ap length (cut .these))) (cut .splits)
 
 -- the tables that the loop reads
 
@@ -276,18 +279,6 @@ under-partial n r under strict inside turned =
           let b = sym (turned v w) ∙ q in
           turned u w ∙ strict .transitive w v u (inside w v b .0) (inside w v b .1) (inside v u a .1) b a;
     }
-
--- The loop reads the order turned round, and which jobs are comparable and which are not.
-
-abbrev pub transpose : Rel → Rel
-transpose r u v = r v u
-
-pub record Tables (n : ℕ) (under tied free : Rel) : Type 0 where
-  pub few : n ≤ 128
-  pub strict : Strict n (transpose under)
-  pub partial : Partial under
-  pub tied-is : Alike n (transpose under) tied false
-  pub free-is : Alike n (transpose under) free true
 
 pub transpose-is : (r under : Rel) → ((u v : ℕ) → under u v ≡ r v u) → transpose under ≡ r
 transpose-is r under turned = fun-ext λ u. fun-ext λ v. turned v u

@@ -1,19 +1,17 @@
 -- The search for the part of a set that a job falls to: jobs to look at, and jobs not yet found.
-use Prim.Native.Nat.{ℕ, suc, _+_, _≤_, _<_}
+use Prim.Native.Nat.{ℕ, _<_}
 use mathlib.Core.Path.{_≡_, refl, sym, ap, subst, _∙_}
-use mathlib.Core.List.{List, [], _∷_, List·Memᴰ}
+use mathlib.Core.List.{List}
 use mathlib.Core.Bool.{Bool, true, false, _&&_, _||_, not}
 use mathlib.Core.Logic.{_⊎_, inl, inr, ⊎-elim}
 use native.Mathlib.Omega.{arith}
 use native.Mathlib.Decide.{ℕ-discrete, decLt}
 use lib.Dec.{eqb}
-use lib.ListN.{length}
-use Rattle.poset.specs.Lists.{exists, sum, below}
+use Rattle.poset.specs.Lists.{exists, below}
 use Rattle.poset.specs.Order.{Rel}
 use Rattle.poset.proofs.Laws.{decided, clash, false-unless, and-left, and-right, and-intro, or-cases, or-left, or-right}
-use Rattle.poset.proofs.Laws.{not-true, not-false, eqb-true, eqb-same, any-hit, any-none, any-miss, below-mem, mem-below}
-use Rattle.poset.proofs.Sums.{length-keep, bit, sum-le}
-use Rattle.relation.specs.Table.{has, members, Least}
+use Rattle.poset.proofs.Laws.{not-true, not-false, eqb-true, eqb-same, any-miss, below-mem}
+use Rattle.relation.specs.Table.{has, Least}
 use Rattle.writer.specs.Parts.{Walk, start, next, PartOf, Jobs}
 
 -- a job of s that is found

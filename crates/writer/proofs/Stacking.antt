@@ -55,7 +55,7 @@ module _ (sets : List (List ℕ)) (starts : List ℕ) (kinds : List Bool) (sizes
   abbrev SizedAt : ℕ → Type 0
   SizedAt h = getD (set sizes top (length (members s))) h 0 ≡ length (members (getD (set sets top s) h []))
 
-  stacks-set : Stacks (set sets top s) (set starts top a) (set kinds top k) (set sizes top (length (members s))) (top + 1)
+  pub stacks-set : Stacks (set sets top s) (set starts top a) (set kinds top k) (set sizes top (length (members s))) (top + 1)
   stacks-set =
       record {
         sets-length = length-set sets top s ∙ z .sets-length;

@@ -2,4 +2,5 @@ pub mod Packing
 pub mod Parts
 pub mod Shapes
 pub mod Stack
+pub mod Turns
 pub mod Written

@@ -1,6 +1,6 @@
 -- What is found of a tree that is to be written: its fields, which are its tokens, its groups and its sequences.
 -- An inner contract: who reads the promise of write_record need not believe it, but specs/Written.antt alone.
-use Prim.Native.Nat.{ℕ, _-_}
+use Prim.Native.Nat.{ℕ}
 use mathlib.Core.List.{List, []}
 use mathlib.Core.Bool.{true, false}
 use mathlib.Core.Option.{Option, none, some}

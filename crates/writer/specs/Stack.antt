@@ -1,15 +1,13 @@
 -- The stack of sets still to be taken apart.
 -- An inner contract: who reads the promise of write_record need not believe it, but specs/Written.antt alone.
-use Prim.Native.Nat.{ℕ, zero, suc, _+_, _-_, _≤_, _<_}
+use Prim.Native.Nat.{ℕ, zero, suc, _+_, _-_, _<_}
 use mathlib.Core.Path.{_≡_}
 use mathlib.Core.List.{List, [], _∷_}
 use mathlib.Core.Bool.{Bool, true, false, not}
-use lib.Dec.{ltb}
-use lib.ListN.{length, getD, set}
+use lib.ListN.{length, getD}
 use Rattle.poset.specs.Lists.{sum}
-use Rattle.poset.specs.Order.{Rel}
-use Rattle.relation.specs.Table.{has, members}
-use Rattle.writer.specs.Parts.{sizeOf, Cut, Sized, Numbered}
+use Rattle.relation.specs.Table.{members}
+use Rattle.writer.specs.Parts.{sizeOf}
 
 -- a set, where its jobs begin in the reverse sequence, and whether it is to become a series group
 pub record Entry : Type 0 where
@@ -51,23 +49,6 @@ spreadOut series start whole (p ∷ ps) =
 -- an entry that becomes a group: its parts
 abbrev pub opened : Entry → List (List ℕ) → List Entry
 opened e ps = spreadOut (e .series) (e .start) (length (members (e .set))) ps
-
--- the parts may take the place of the entry on the stack
-pub record Opens (e : Entry) (parts : List (List ℕ)) : Type 0 where
-  pub fits : e .start + length (members (e .set)) ≤ 128
-  pub jobs : jobsOf parts ≡ length (members (e .set))
-
--- all jobs below n are on the stack, and taken apart as a series: if they come apart, they are to become one
-pub record FirstEntry (n : ℕ) (free under : Rel) (numbers₀ numbers : List ℕ) (sets₀ sets : List (List ℕ)) (kinds₀ kinds : List Bool)
-    (sizes₀ sizes : List ℕ) (parts : List (List ℕ)) (jobs : List ℕ) (count : ℕ) : Type 0 where
-  pub all : List ℕ
-  pub is-all : (v : ℕ) → has all v ≡ ltb v n
-  pub on-stack : sets ≡ set sets₀ 0 all
-  pub kind : kinds ≡ set kinds₀ 0 (ltb 1 count)
-  pub size : sizes ≡ set sizes₀ 0 n
-  pub cut : Cut free under true all parts count
-  pub sized : Sized count parts jobs
-  pub numbered : Numbered all parts count numbers₀ numbers
 
 -- the field of a group: a series or a parallel one, by its children minus 1
 abbrev pub groupField : Bool → ℕ → ℕ

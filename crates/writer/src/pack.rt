@@ -1,5 +1,4 @@
 //! Bit fields, one after another, as bytes.
-ghost use mathlib.Core.Path.{_≡_};
 ghost use mathlib.Core.List.{List, [], _++_, flatMap};
 ghost use Prim.Native.Nat.{ℕ, _+_, _*_, _-_, _<_, _≤_, _^_};
 ghost use lib.ListN.{length};
@@ -66,7 +65,7 @@ fn put_field(
 {
     if field < 128 {
         let job = taken(p, 8, field);
-        let leaf = taken(job, record::HOURS_BITS, wide(hours[field]));
+        let leaf = taken(job, record::HOURS_BITS, record::wide_u16(hours[field]));
         let one = moved(bytes, leaf);
         let two = moved(bytes, one);
         moved_if_full(bytes, two)
@@ -111,16 +110,10 @@ pub fn pack(n: usize, fields: &[u16], hours: &[u16; 128]) -> Packed
     };
     let mut i = 0;
     while i < fields.len() {
-        let next = put_field(&mut bytes, p, wide(fields[i]), hours);
+        let next = put_field(&mut bytes, p, record::wide_u16(fields[i]), hours);
         p = next;
         i += 1;
     }
     let count = finish(&mut bytes, p);
     Packed { bytes, count }
-}
-
-fn wide(x: u16) -> usize
-    ensures { λ r. ⌜ r ≡ x ⌝ }
-{
-    x as usize
 }

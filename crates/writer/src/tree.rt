@@ -14,7 +14,8 @@ ghost use Rattle.poset.specs.Order.{Strict};
 ghost use Rattle.poset.specs.Decompose.{treeOf};
 ghost use Rattle.writer.specs.Shapes.{noShape, shape, shaped};
 ghost use Rattle.writer.specs.Parts.{sizeOf, lead, Jobs, Partial, Sized, Taken, closeOf};
-ghost use Rattle.writer.specs.Stack.{entries, jobsOf, spreadOut, startAt, Stacks, groupField, entryAt, Opens, opened, FirstEntry};
+ghost use Rattle.writer.specs.Stack.{entries, jobsOf, spreadOut, startAt, Stacks, groupField};
+ghost use Rattle.writer.specs.Turns.{work, transpose, Tables, SpreadRoom, Grouped, Rooted, TopRoom, Turned};
 
 // A group: whether it is a series, where it begins in the reverse sequence, and how many jobs it has.
 pub struct Group {
@@ -53,7 +54,7 @@ fn push(
         i -= 1;
         let part = parts[i];
         let own = jobs[i];
-        let size = wide(own);
+        let size = record::wide_u8(own);
         starts[top] = start_of(g, later, size);
         stack[top] = part;
         kinds[top] = !series;
@@ -151,7 +152,7 @@ fn put_group(
     }
 }
 
-// The top set becomes a group: its parts are spread out in its place.
+// The top set becomes a group: its field, and its parts spread out in its place.
 fn spread(
     parts: &[[u64; 2]; 128],
     jobs: &[u8; 128],
@@ -160,32 +161,25 @@ fn spread(
     starts: &mut [usize; 128],
     kinds: &mut [bool; 128],
     sizes: &mut [u8; 128],
-    top: usize,
-) -> usize
-    requires { ⌜ (count ≤ 128) × (top + count ≤ 128) × (top < 128) ⌝ }
-    requires { ⌜ Sized count (now parts) (now jobs) × Stacks (now stack) (now starts) (now kinds) (now sizes) (top + 1) ⌝ }
-    requires { ⌜ Opens (entryAt (now stack) (now starts) (now kinds) top) (take count (now parts)) ⌝ }
-    ensures { λ r. ⌜ r ≡ top + count ⌝ }
-    ensures { λ r. ⌜ Stacks (now (stack .exit)) (now (starts .exit)) (now (kinds .exit)) (now (sizes .exit)) (top + count) ⌝ }
-    ensures { λ r. ⌜ entries (now (stack .exit)) (now (starts .exit)) (now (kinds .exit)) (top + count)
-        ≡ opened (entryAt (now (stack .entry)) (now (starts .entry)) (now (kinds .entry)) top) (take count (now (parts .entry)))
-        ++ entries (now (stack .entry)) (now (starts .entry)) (now (kinds .entry)) top ⌝ }
+    fields: &mut [u16; NODE_ROOM],
+    p: Progress,
+) -> Progress
+    requires { ⌜ SpreadRoom count (now parts) (now jobs) (work (now stack) (now starts) (now kinds) (now sizes) (now fields)) p ⌝ }
+    ensures { λ r. ⌜ Grouped count (now (parts .entry))
+        (work (now (stack .entry)) (now (starts .entry)) (now (kinds .entry)) (now (sizes .entry)) (now (fields .entry))) p
+        (work (now (stack .exit)) (now (starts .exit)) (now (kinds .exit)) (now (sizes .exit)) (now (fields .exit))) r ⌝ }
 {
+    let top = p.height - 1;
     let series = kinds[top];
     let start = starts[top];
-    let whole = wide(sizes[top]);
+    let whole = record::wide_u8(sizes[top]);
     let g = Group {
         series,
         start,
         whole,
     };
-    push(parts, jobs, count, g, stack, starts, kinds, sizes, top)
-}
-
-fn wide(x: u8) -> usize
-    ensures { λ r. ⌜ r ≡ x ⌝ }
-{
-    x as usize
+    let height = push(parts, jobs, count, g, stack, starts, kinds, sizes, top);
+    put_group(fields, series, count, p, height)
 }
 
 // The parts of a set for a group of this kind, in its order.
@@ -216,8 +210,8 @@ fn split_as(
     }
 }
 
-// All jobs on the stack, a series group if they come apart so; and their parts as of a series.
-fn first_entry(
+// All jobs on the stack; if they come apart as a series, they become the root group.
+fn open_root(
     free: &[[u64; 2]; 128],
     under: &[[u64; 2]; 128],
     n: usize,
@@ -225,22 +219,85 @@ fn first_entry(
     jobs: &mut [u8; 128],
     numbers: &mut [u8; 128],
     stack: &mut [[u64; 2]; 128],
+    starts: &mut [usize; 128],
     kinds: &mut [bool; 128],
     sizes: &mut [u8; 128],
-) -> usize
-    requires { ⌜ n ≤ 128 ⌝ }
+    fields: &mut [u16; NODE_ROOM],
+) -> Progress
+    requires { ⌜ (0 < n) × (n ≤ 128) ⌝ }
     requires { ⌜ Partial (holds (now under)) ⌝ }
     requires { ⌜ (length (now parts) ≡ 128) × (length (now jobs) ≡ 128) × (length (now numbers) ≡ 128) ⌝ }
-    ensures { λ r. ⌜ FirstEntry n (holds (now (free .entry))) (holds (now (under .entry))) (now (numbers .entry)) (now (numbers .exit))
-        (now (stack .entry)) (now (stack .exit)) (now (kinds .entry)) (now (kinds .exit)) (now (sizes .entry)) (now (sizes .exit))
-        (now (parts .exit)) (now (jobs .exit)) r ⌝ }
+    requires { ⌜ Stacks (now stack) (now starts) (now kinds) (now sizes) 0 ⌝ }
+    ensures { λ r. ⌜ Rooted n (holds (now (free .entry))) (holds (now (under .entry)))
+        (work (now (stack .entry)) (now (starts .entry)) (now (kinds .entry)) (now (sizes .entry)) (now (fields .entry)))
+        (work (now (stack .exit)) (now (starts .exit)) (now (kinds .exit)) (now (sizes .exit)) (now (fields .exit))) r ⌝ }
+    ensures { λ r. ⌜ (length (now (parts .exit)) ≡ 128) × (length (now (jobs .exit)) ≡ 128) × (length (now (numbers .exit)) ≡ 128) ⌝ }
 {
     let all = set::all_below(n);
     let first = parts::split(free, under, true, all, n, parts, jobs, numbers);
     stack[0] = all;
+    starts[0] = 0;
     kinds[0] = 1 < first;
     sizes[0] = (n % 256) as u8;
-    first
+    let p = Progress {
+        height: 1,
+        count: 0,
+        groups: 0,
+        placed: 0,
+    };
+    if first < 2 {
+        return p;
+    }
+    spread(parts, jobs, first, stack, starts, kinds, sizes, fields, p)
+}
+
+// The writing after a turn: whether it can go on, and how far it is.
+pub struct Step {
+    pub ok: bool,
+    pub p: Progress,
+}
+
+// The top set is put as a leaf, or becomes a group; or it cannot be taken apart, as its kind asks.
+fn turn(
+    tied: &[[u64; 2]; 128],
+    free: &[[u64; 2]; 128],
+    under: &[[u64; 2]; 128],
+    parts: &mut [[u64; 2]; 128],
+    jobs: &mut [u8; 128],
+    numbers: &mut [u8; 128],
+    stack: &mut [[u64; 2]; 128],
+    starts: &mut [usize; 128],
+    kinds: &mut [bool; 128],
+    sizes: &mut [u8; 128],
+    fields: &mut [u16; NODE_ROOM],
+    forward: &mut [u8; 128],
+    reverse: &mut [u8; 128],
+    p: Progress,
+) -> Step
+    requires { ⌜ Partial (holds (now under)) ⌝ }
+    requires { ⌜ (length (now parts) ≡ 128) × (length (now jobs) ≡ 128) × (length (now numbers) ≡ 128) ⌝ }
+    requires { ⌜ TopRoom (work (now stack) (now starts) (now kinds) (now sizes) (now fields)) p ⌝ }
+    ensures { λ r. ⌜ Turned (holds (now (tied .entry))) (holds (now (free .entry))) (holds (now (under .entry)))
+        (work (now (stack .entry)) (now (starts .entry)) (now (kinds .entry)) (now (sizes .entry)) (now (fields .entry)))
+        (now (forward .entry)) (now (reverse .entry)) p
+        (work (now (stack .exit)) (now (starts .exit)) (now (kinds .exit)) (now (sizes .exit)) (now (fields .exit)))
+        (now (forward .exit)) (now (reverse .exit)) (r .p) (r .ok) ⌝ }
+    ensures { λ r. ⌜ (length (now (parts .exit)) ≡ 128) × (length (now (jobs .exit)) ≡ 128) × (length (now (numbers .exit)) ≡ 128) ⌝ }
+{
+    let top = p.height - 1;
+    let s = stack[top];
+    let whole = record::wide_u8(sizes[top]);
+    if whole == 1 {
+        let next = put_leaf(fields, forward, reverse, starts, s, p);
+        return Step { ok: true, p: next };
+    }
+    let series = kinds[top];
+    let count = split_as(tied, free, under, series, s, whole, parts, jobs, numbers);
+    if count < 2 {
+        return Step { ok: false, p };
+    }
+    let next = spread(parts, jobs, count, stack, starts, kinds, sizes, fields, p);
+    Step { ok: true, p: next }
 }
 
 // Which jobs are comparable, and which incomparable, among those below n.
@@ -303,8 +360,68 @@ fn shaped(p: Progress, fields: [u16; NODE_ROOM], forward: [u8; 128], reverse: [u
     }
 }
 
-// A set of two jobs or more that cannot be taken apart, as its kind asks, has an N. All jobs become a series group if they come
-// apart so.
+// The tree from its root on, one set of the stack after another. A set of two jobs or more that cannot be taken apart, as its kind
+// asks, has an N.
+fn grow(
+    tied: &[[u64; 2]; 128],
+    free: &[[u64; 2]; 128],
+    under: &[[u64; 2]; 128],
+    n: usize,
+    parts: &mut [[u64; 2]; 128],
+    jobs: &mut [u8; 128],
+    numbers: &mut [u8; 128],
+    stack: &mut [[u64; 2]; 128],
+    starts: &mut [usize; 128],
+    kinds: &mut [bool; 128],
+    sizes: &mut [u8; 128],
+) -> Shape
+    requires { ⌜ (0 < n) × Tables n (holds (now under)) (holds (now tied)) (holds (now free)) ⌝ }
+    requires { ⌜ (length (now parts) ≡ 128) × (length (now jobs) ≡ 128) × (length (now numbers) ≡ 128) ⌝ }
+    requires { ⌜ Stacks (now stack) (now starts) (now kinds) (now sizes) 0 ⌝ }
+    ensures { λ r. ⌜ r ≡ shape (treeOf n (transpose (holds (now (under .entry))))) ⌝ }
+{
+    let mut fields = [0; NODE_ROOM];
+    let mut forward = [0; 128];
+    let mut reverse = [0; 128];
+    let mut p = open_root(
+        free,
+        under,
+        n,
+        parts,
+        jobs,
+        numbers,
+        stack,
+        starts,
+        kinds,
+        sizes,
+        &mut fields,
+    );
+    while 0 < p.height {
+        let next = turn(
+            tied,
+            free,
+            under,
+            parts,
+            jobs,
+            numbers,
+            stack,
+            starts,
+            kinds,
+            sizes,
+            &mut fields,
+            &mut forward,
+            &mut reverse,
+            p,
+        );
+        if !next.ok {
+            return no_shape();
+        }
+        p = next.p;
+    }
+    shaped(p, fields, forward, reverse)
+}
+
+// The canonical tree of an order, if it has one: what the turns read of the order, and empty lists for them.
 pub fn shape_of(after: [[u64; 2]; 128], under: &[[u64; 2]; 128], n: usize) -> Shape
     requires { ⌜ (0 < n) × (n ≤ 128) ⌝ }
     requires { ⌜ Strict n (holds after) ⌝ }
@@ -322,10 +439,8 @@ pub fn shape_of(after: [[u64; 2]; 128], under: &[[u64; 2]; 128], n: usize) -> Sh
     let mut starts = [0; 128];
     let mut kinds = [false; 128];
     let mut sizes = [0; 128];
-    let mut fields = [0; NODE_ROOM];
-    let mut forward = [0; 128];
-    let mut reverse = [0; 128];
-    let first = first_entry(
+    grow(
+        &tied,
         &free,
         under,
         n,
@@ -333,65 +448,8 @@ pub fn shape_of(after: [[u64; 2]; 128], under: &[[u64; 2]; 128], n: usize) -> Sh
         &mut jobs,
         &mut numbers,
         &mut stack,
+        &mut starts,
         &mut kinds,
         &mut sizes,
-    );
-    let mut p = Progress {
-        height: 1,
-        count: 0,
-        groups: 0,
-        placed: 0,
-    };
-    if 1 < first {
-        let height = spread(
-            &parts,
-            &jobs,
-            first,
-            &mut stack,
-            &mut starts,
-            &mut kinds,
-            &mut sizes,
-            0,
-        );
-        let next = put_group(&mut fields, true, first, p, height);
-        p = next;
-    }
-    while 0 < p.height {
-        let top = p.height - 1;
-        let s = stack[top];
-        let whole = wide(sizes[top]);
-        if whole == 1 {
-            let next = put_leaf(&mut fields, &mut forward, &mut reverse, &starts, s, p);
-            p = next;
-        } else {
-            let series = kinds[top];
-            let count = split_as(
-                &tied,
-                &free,
-                under,
-                series,
-                s,
-                whole,
-                &mut parts,
-                &mut jobs,
-                &mut numbers,
-            );
-            if count < 2 {
-                return no_shape();
-            }
-            let height = spread(
-                &parts,
-                &jobs,
-                count,
-                &mut stack,
-                &mut starts,
-                &mut kinds,
-                &mut sizes,
-                top,
-            );
-            let next = put_group(&mut fields, series, count, p, height);
-            p = next;
-        }
-    }
-    shaped(p, fields, forward, reverse)
+    )
 }

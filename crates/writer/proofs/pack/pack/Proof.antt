@@ -21,21 +21,21 @@ sub-t9 c = search needs
 loop-holds : tie.Need-loop-holds Inv-loop μ-loop
 loop-holds c = let s = c .before in start (s .args .n) (s .args .hours .now) (s .args .fields .now) (s .pre .0 .0) (s .pre .0 .1)
 
-mul-wide : tie.Need-mul-wide Inv-loop μ-loop
-mul-wide c = search needs
+mul-wide-u16 : tie.Need-mul-wide-u16 Inv-loop μ-loop
+mul-wide-u16 c = search needs
 
-shared-slice-read-wide : tie.Need-shared-slice-read-wide Inv-loop μ-loop
-shared-slice-read-wide c = search needs
+shared-slice-read-wide-u16 : tie.Need-shared-slice-read-wide-u16 Inv-loop μ-loop
+shared-slice-read-wide-u16 c = search needs
 
-wide-requires : tie.Need-wide-requires Inv-loop μ-loop
-wide-requires c κs = search needs
+wide-u16-requires : tie.Need-wide-u16-requires Inv-loop μ-loop
+wide-u16-requires c κs = search needs
 
 put-field-requires : tie.Need-put-field-requires Inv-loop μ-loop
 put-field-requires c κs =
     let s = c .before .before .before .before .before .before in
     let l = c .before .before .before .before .loop in
     let hours = s .args .hours .now in (
-      subst (λ x. Ready (l .p) (length (fieldBits hours x))) (sym (c .wide .ensures))
+      subst (λ x. Ready (l .p) (length (fieldBits hours x))) (sym (c .wide-u16 .ensures))
           (ready-for-field (s .args .n) hours (s .args .fields .now) (l .bytes) (l .p) (l .i) (l .inv) (s .pre .1 .0)
           (c .before .before .before .loop-test .taken)),
       s .pre .1 .1,
@@ -54,7 +54,8 @@ loop-again c =
     let hours = s .args .hours .now in
     next (s .args .n) hours (s .args .fields .now) (l .bytes) (l .p) (l .i) (l .inv) (c .put-field .last .0) (c .put-field .result)
     (c .before .before .before .before .loop-test .taken)
-    (subst (λ x. Puts (fieldBits hours x) (l .bytes) (l .p) (c .put-field .last .0) (c .put-field .result)) (c .before .wide .ensures) (c .put-field .ensures))
+    (subst (λ x. Puts (fieldBits hours x) (l .bytes) (l .p) (c .put-field .last .0) (c .put-field .result)) (c .before .wide-u16 .ensures)
+    (c .put-field .ensures))
 
 finish-requires : tie.Need-finish-requires Inv-loop μ-loop
 finish-requires c κs =
@@ -77,9 +78,9 @@ pack-spec =
     μ-loop
     sub-t9
     loop-holds
-    mul-wide
-    shared-slice-read-wide
-    wide-requires
+    mul-wide-u16
+    shared-slice-read-wide-u16
+    wide-u16-requires
     put-field-requires
     add-i
     loop-less

@@ -27,7 +27,7 @@ module _ (c : tie.After-taken2) where
   leaf-takes =
       let s = leaf-start .args in
       subst (λ l. Takes l (s .p) (c .taken2 .result))
-      (ap (λ h. bits 8 (s .field) ++ bits hoursBits h) (c .before .wide .ensures) ∙ sym (leaf-is (s .hours .now) (s .field) (leaf-case .if1 .taken)))
+      (ap (λ h. bits 8 (s .field) ++ bits hoursBits h) (c .before .wide-u16 .ensures) ∙ sym (leaf-is (s .hours .now) (s .field) (leaf-case .if1 .taken)))
       (takes-both (c .before .before .before .taken .ensures) (c .taken2 .ensures))
 
   leaf-room
@@ -54,21 +54,21 @@ module _ (c : tie.After-taken3) where
 taken-requires : tie.Need-taken-requires
 taken-requires c κs = omega (arith, c .before .pre .0 .few, c .if1 .taken)
 
-mul-wide : tie.Need-mul-wide
-mul-wide c = search needs
+mul-wide-u16 : tie.Need-mul-wide-u16
+mul-wide-u16 c = search needs
 
-element-copy-out-wide : tie.Need-element-copy-out-wide
-element-copy-out-wide c = search needs
+element-copy-out-wide-u16 : tie.Need-element-copy-out-wide-u16
+element-copy-out-wide-u16 c = search needs
 
-wide-requires : tie.Need-wide-requires
-wide-requires c κs = search needs
+wide-u16-requires : tie.Need-wide-u16-requires
+wide-u16-requires c κs = search needs
 
 taken-requires-2 : tie.Need-taken-requires-2
 taken-requires-2 c κs =
     let t = c .before .before in
     let s = t .before .before in (
       omega (arith, t .taken .ensures .more, length-bits 8 (s .args .field), s .pre .0 .few),
-      subst (λ h. h < 2 ^ hoursBits) (sym (c .wide .ensures))
+      subst (λ h. h < 2 ^ hoursBits) (sym (c .wide-u16 .ensures))
           (entry-below (s .args .hours .now) (s .args .field) (2 ^ hoursBits) (omega arith) (s .pre .1)),
     )
 
@@ -114,9 +114,9 @@ put-field-spec =
     tie.close
     (tie.spec
     taken-requires
-    mul-wide
-    element-copy-out-wide
-    wide-requires
+    mul-wide-u16
+    element-copy-out-wide-u16
+    wide-u16-requires
     taken-requires-2
     moved-requires
     moved-requires-2

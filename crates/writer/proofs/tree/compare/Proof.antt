@@ -1,7 +1,7 @@
 -- `tree::compare`: row by row, both tables at once.
 use borrow.Author.Needs.{needs}
 use Prim.Native.Nat.{ℕ, _-_}
-use mathlib.Core.Path.{refl, ap, ap₂, _∙_}
+use mathlib.Core.Path.{ap₂, _∙_}
 use mathlib.Core.List.{List}
 use mathlib.Core.Bool.{_&&_, _||_, not, and-assoc}
 use native.Mathlib.Omega.{arith}

@@ -55,14 +55,14 @@ element-copy-out-part c = omega arith
 element-copy-out-own : tie.Need-element-copy-out-own Inv-loop μ-loop
 element-copy-out-own c = omega (arith, c .before .before .loop .inv .few, c .before .loop-test .taken, c .before .before .before .pre .0 .0)
 
-wide-requires : tie.Need-wide-requires Inv-loop μ-loop
-wide-requires c κs = tt
+wide-u8-requires : tie.Need-wide-u8-requires Inv-loop μ-loop
+wide-u8-requires c κs = tt
 
 -- the size that is kept is the part's
-sized : (c : tie.After-wide Inv-loop μ-loop) → c .wide .result ≡ length (members (part (c .before .before .before)))
+sized : (c : tie.After-wide-u8 Inv-loop μ-loop) → c .wide-u8 .result ≡ length (members (part (c .before .before .before)))
 sized c =
     let t = c .before .before .before in
-    c .wide .ensures ∙ t .before .before .pre .1 .0 .0 .each (t .before .loop .i - 1) (omega (arith, t .before .loop .inv .few, t .loop-test .taken))
+    c .wide-u8 .ensures .0 ∙ t .before .before .pre .1 .0 .0 .each (t .before .loop .i - 1) (omega (arith, t .before .loop .inv .few, t .loop-test .taken))
 
 start-of-requires : tie.Need-start-of-requires Inv-loop μ-loop
 start-of-requires c κs =
@@ -107,7 +107,7 @@ loop-again c =
     let size = sized (c .before) in
     push-next (a .parts .now) (a .count) (a .g .series) (a .g .start) (a .g .whole) (old s) (a .height) (l .stack) (l .starts) (l .kinds) (l .sizes)
     (l .i) (l .top) (l .later) (l .i - 1) (l .inv) (omega (arith, t .loop-test .taken)) (omega (arith, s .pre .1 .0 .0 .parts-length, s .pre .0 .0))
-    _ (c .start-of .result) _ size (c .start-of .ensures) (sym (c .before .wide .ensures)) (s .pre .0 .1)
+    _ (c .start-of .result) _ size (c .start-of .ensures) (sym (c .before .wide-u8 .ensures .0)) (s .pre .0 .1)
 
 returns : tie.Need-returns Inv-loop μ-loop
 returns c =
@@ -129,7 +129,7 @@ push-spec =
     mul-part
     element-copy-out-part
     element-copy-out-own
-    wide-requires
+    wide-u8-requires
     start-of-requires
     mul-starts
     element-write-starts

@@ -1,3 +1,4 @@
+-- `writing::write_record`: the record spells the tree, or there is neither.
 use borrow.Author.Needs.{needs}
 use borrow.Author.Tests.{not-false}
 use mathlib.Core.Path.{_≡_, sym, ap, _∙_}
