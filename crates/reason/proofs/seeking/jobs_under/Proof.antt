@@ -73,4 +73,17 @@ returns c = λ s a. counted-all _ s _ _ _ (c .before .loop .inv s a) (c .loop-te
 pub jobs-under-spec : {M : Type 1} → statement M
 jobs-under-spec =
     tie.close
-    (tie.spec Inv-loop μ-loop loop-holds mul-wide-u16 element-copy-out-wide-u16 wide-u16-requires sub-trees add-jobs add-trees add-i loop-less loop-again returns)
+    (tie.spec
+    Inv-loop
+    μ-loop
+    loop-holds
+    mul-wide-u16
+    element-copy-out-wide-u16
+    wide-u16-requires
+    sub-trees
+    add-jobs
+    add-trees
+    add-i
+    loop-less
+    loop-again
+    returns)

@@ -76,7 +76,8 @@ loop-again c =
     let l = j .before .before in λ t x.
     let found = l .loop .inv t x in
     searched-more _ _ t _ _ x _ _ found (goes-on j) _
-    (c .taken .ensures _ _ (rw (c .before .wide-u16 .ensures) (step _ _ t _ _ x _ _ found (goes-on j))) (row-fits t _ _ (x .nodes) (l .loop .i - 1)) (found .rowed))
+    (c .taken .ensures _ _ (rw (c .before .wide-u16 .ensures) (step _ _ t _ _ x _ _ found (goes-on j)))
+    (row-fits t _ _ (x .nodes) (l .loop .i - 1)) (found .rowed))
 
 mul-wide-u16-2 : tie.Need-mul-wide-u16-2 Inv-loop μ-loop
 mul-wide-u16-2 c = omega (arith, at-end c)
