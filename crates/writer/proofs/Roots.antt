@@ -1,4 +1,4 @@
--- How the writing of a tree begins, and how it fails.
+-- The set of all jobs, which the writing of a tree begins with; and sets that are not taken apart, where it fails.
 use Prim.Native.Nat.{ℕ, _+_, _-_, _≤_, _<_}
 use mathlib.Core.Path.{_≡_, refl, sym, ap, ap₂, subst, fun-ext, _∙_}
 use mathlib.Core.List.{List, [], _∷_, _++_, append-nil, List·Memᴰ, List·Memᴰ·head, List·Memᴰ·tail}

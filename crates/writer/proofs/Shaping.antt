@@ -3,7 +3,7 @@ use Prim.Native.Nat.{ℕ, zero, suc, _+_, _-_, _≤_, _<_}
 use mathlib.Core.Path.{_≡_, refl, sym, ap, ap₂, subst, _∙_}
 use mathlib.Core.List.{List, [], _∷_, _++_, map}
 use mathlib.Core.Bool.{Bool, true, false}
-use mathlib.Core.Option.{none, some}
+use mathlib.Core.Option.{none}
 use mathlib.Core.Logic.{⊎-elim}
 use native.Mathlib.Numerals.{add-one}
 use native.Mathlib.Omega.{arith}
@@ -11,7 +11,7 @@ use lib.ListN.{length, length-map, take, drop, set, replicate, length-set, lengt
 use lib.Seq.{drop-set-lt, getD-set-same}
 use Rattle.poset.specs.Lists.{below}
 use Rattle.poset.specs.Order.{Rel, Strict, HasN}
-use Rattle.poset.specs.Tree.{leaves, reversed, groups}
+use Rattle.poset.specs.Tree.{leaves, reversed}
 use Rattle.poset.specs.Decompose.{treeOf}
 use Rattle.poset.specs.Inner.{Each}
 use Rattle.poset.proofs.Laws.{found-or-none}
@@ -34,6 +34,7 @@ use Rattle.writer.proofs.Roots.{alike, cut-count, cut-jobs}
 use Rattle.writer.proofs.Entries.{EntryOk, Every, every-append, jobs-append, jobs-spread, entries-few, toPending, pend}
 use Rattle.writer.proofs.Entries.{pend-append, pend-spread, field-token, splits-each, spread-every, PartOk, laid-each, setsOf}
 
+-- so much is written, and the sets on the stack are what is missing
 pub record Shaping (n : ℕ) (r tied free : Rel) (w : Work) (forward reverse : List ℕ) (p : Progress) : Type 0 where
   pub stacks : StacksOf w (p .height)
   pub fields-size : length (w .fields) ≡ 256

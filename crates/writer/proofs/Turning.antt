@@ -1,4 +1,4 @@
--- How the writing of a tree begins, what each turn keeps, and what it means that a turn fails.
+-- The loop that writes a tree holds what it holds at its beginning and through each turn; where a turn fails there is no tree.
 use Prim.Native.Nat.{ℕ, _+_, _≤_, _<_}
 use mathlib.Core.Path.{_≡_, refl, sym, ap, subst₂, _∙_}
 use mathlib.Core.List.{List}
