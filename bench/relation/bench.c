@@ -197,8 +197,9 @@ int main(void) {
     for (int u = 0; u < 64; u++) for (int v = 64; v < 128; v++) arc(u, v);
     race_reduce("closure and reduction, bipartite");
     numbers = 0;
-    // (A beside B then D) then C, and beside it all an N on the last four jobs: all that is tried before it fails late
-    for (int i = 0; i < 31; i++) for (int j = 0; j < 31; j++) { arc(i, 93 + j); arc(31 + i, 62 + j); arc(62 + i, 93 + j); }
+    // (A beside B then D) then C, and beside it all an N on the last four jobs: all that is tried before it fails late. The jobs of A, B, C
+    // and D take turns in number, so that no job is passed over as the twin of the one ahead of it
+    for (int i = 0; i < 124; i += 4) for (int j = 0; j < 124; j += 4) { arc(i, 3 + j); arc(1 + i, 2 + j); arc(2 + i, 3 + j); }
     arc(124, 126); arc(125, 126); arc(125, 127);
     race_first_n("first N, the last one", 128);
     numbers = 0;

@@ -74,7 +74,7 @@ fn finish(
 }
 
 // The rows of a job that is left and of all that it leads to, if no cycle is met. A job waits on a stack until the rows of all that its arcs
-// lead to are finished; an arc to itself or to a job on the stack is part of a cycle. Whether none is met.
+// lead to are finished; an arc to itself or to a job on the stack is part of a cycle. Whether none is met; `left` then has the jobs still left.
 fn follow(
     t: &[[u64; 2]; 128],
     made: &mut [[u64; 2]; 128],

@@ -1,4 +1,5 @@
 //! The jobs of a run in a list.
+use record::wide_u8;
 ghost use Prim.Native.Nat.{ℕ};
 ghost use mathlib.Core.Path.{_≡_};
 ghost use mathlib.Core.List.{List};
@@ -8,12 +9,6 @@ ghost use Rattle.longest.specs.Stack.{Linked, Shown};
 pub struct Showing {
     pub count: usize,
     pub jobs: [u8; 128],
-}
-
-pub fn job(x: u8) -> usize
-    ensures { λ r. ⌜ r ≡ x ⌝ }
-{
-    x as usize
 }
 
 // The jobs from the first to the last, each followed by its next.
@@ -26,7 +21,7 @@ pub fn shown(next: &[u8; 128], first: u8, last: u8) -> Showing
     let mut present = first;
     while present != last {
         jobs[count] = present;
-        present = next[job(present)];
+        present = next[wide_u8(present)];
         count += 1;
     }
     jobs[count] = last;

@@ -1,6 +1,6 @@
 //! The longest run, over a record's nodes from the last to the first. The trees that begin at the nodes taken so far stand in a row; a stack
 //! has the run of each, the first on top. A run is its total, its first and its last job, and the jobs between by a list of next jobs.
-use crate::showing::job;
+use record::wide_u8;
 use record::wide_u16;
 ghost use Prim.Native.Nat.{ℕ, _^_};
 ghost use mathlib.Core.Path.{_≡_};
@@ -46,7 +46,7 @@ fn chain(
     while k > top {
         k -= 1;
         let last = lasts[k];
-        next[job(last)] = first;
+        next[wide_u8(last)] = first;
         first = firsts[k];
         total += totals[k];
     }

@@ -1,4 +1,4 @@
--- Records of before leaves had hours: none is a record. (Document 01: a leaf is bit 0, then 7 bits job number. Document 02, A.2: older records are made again
+-- Records without hours: none is a record. (Document 01: a leaf is bit 0, then 7 bits job number. Document 02, A.2: older records are made again
 -- from their sheets.)
 use Prim.Native.Nat.{ℕ, _+_, _-_, _*_, _≤_, _<_}
 use mathlib.Core.Path.{_≡_, sym, ap, subst, _∙_}
@@ -27,7 +27,7 @@ unfoldable mutual
 unfoldable pub olderLayout : ℕ → Tree → List ℕ
 olderLayout n t = bytesOf (bits 7 (n - 1) ++ olderBits t)
 
--- the bytes were the record of a tree on n jobs, in whatever order its branches stood
+-- the bytes are the layout without hours of a tree on n jobs, plain or not
 pub record WasOlder (bytes : List ℕ) (n : ℕ) (t : Tree) : Type 0 where
   pub least : 0 < n
   pub most : n ≤ 128

@@ -17,7 +17,7 @@ use Rattle.record.proofs.Former.{formerlyCanonical, WasRecord}
 use Rattle.record.proofs.Older
 use Rattle.record.proofs.Older.{olderLayout, WasOlder}
 use Rattle.record.proofs.Examples
-use Rattle.record.proofs.Examples.{Example, examples, largest-first, smallest-first, older}
+use Rattle.record.proofs.Examples.{Example, examples, sample, largest-first, smallest-first, older}
 
 -- the decoder gives a canonical tree on 1 to 128 jobs and their hours back from the layout
 pub decode-layout
@@ -50,7 +50,7 @@ decode-any = Records.decode-any
 pub former-decode : (bytes : List ℕ) (n : ℕ) (t : Tree) (hours : List ℕ) → WasRecord bytes n t hours → decode bytes ≡ onlyIf (canonical t) (n, t, hours)
 former-decode = Former.former-decode
 
--- no record of before leaves had hours is one, in whatever order its branches stood
+-- no layout without hours is a record, of whatever tree
 pub older-none : (bytes : List ℕ) (n : ℕ) (t : Tree) → WasOlder bytes n t → (m : ℕ) (s : Tree) (hours : List ℕ) → IsRecord bytes m s hours → ⊥
 older-none = Older.older-none
 
@@ -91,3 +91,6 @@ was-record = Examples.was-record
 -- the records of document 01 as it prints them, without hours
 pub laid-out-before : map (λ (e : ℕ × Tree × List ℕ). olderLayout (e .0) (e .1)) older ≡ map (λ (e : ℕ × Tree × List ℕ). e .2) older
 laid-out-before = Examples.laid-out-before
+
+pub was-older : WasOlder (0x09 ∷ 0x81 ∷ 0x81 ∷ 0x00 ∷ 0x60 ∷ 0x40 ∷ 0x40 ∷ 0x80 ∷ 0xc1 ∷ 0x00 ∷ []) 5 sample
+was-older = Examples.was-older

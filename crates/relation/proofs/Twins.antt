@@ -20,7 +20,7 @@ module _ (n : ℕ) (r : Rel) (u : ℕ) where
       only-if-none _ _ .0
       (none-below (at-d n r u b c) n .0 (none-below (at-c n r u b) n .0 (none-below (at-b n r u) n .0 e b lb) c lc) d ld)
 
-  pub at-none : None → at-a n r u ≡ none
+  at-none : None → at-a n r u ≡ none
   at-none e =
       none-below (at-b n r u) n .1 λ b lb.
       none-below (at-c n r u b) n .1 λ c lc.

@@ -1,4 +1,4 @@
--- The loop that writes a tree holds what it holds at its beginning and through each turn; where a turn fails there is no tree.
+-- What the loop that writes a tree holds (Shaping): at its beginning, and through each turn; where a turn fails there is no tree.
 use Prim.Native.Nat.{ℕ, _+_, _≤_, _<_}
 use mathlib.Core.Path.{_≡_, refl, sym, ap, subst₂, _∙_}
 use mathlib.Core.List.{List}
@@ -15,11 +15,17 @@ use Rattle.relation.specs.Table.{has, members}
 use Rattle.writer.specs.declared.tree.Progress.{Progress}
 use Rattle.writer.specs.Parts.{Taken, closeOf}
 use Rattle.writer.specs.Stack.{Entry}
-use Rattle.writer.specs.Turns.{transpose, Tables, Work, StacksOf, topOf, TopRoom, SpreadRoom, Rooted, Turned, put, opens, stays, allJobs, begun}
+use Rattle.writer.specs.Turns.{transpose, Tables, Work, StacksOf, topOf, TopRoom, SpreadRoom, Parted, Rooted, Stepped, put, opens, stays, allJobs, begun}
 use Rattle.writer.proofs.Roots.{members-all, root-cut, cut-jobs, cut-joined, stuck}
 use Rattle.writer.proofs.Shaping.{Shaping, top-ok, room, leaf-turn, group-turn, all-size, first-entry, first-stacks, shape-start, no-tree}
 
--- a set taken apart has room for its parts
+-- a set taken apart leaves its lists as long as they were
+pub parted-lengths
+    : {near under : Rel} {series : Bool} {s : List ℕ} (a : Parted near under series s)
+    → (length (a .parts) ≡ 128) × (length (a .jobs) ≡ 128) × (length (a .numbers′) ≡ 128)
+parted-lengths a = let e = a .taken in (e .sized .parts-length, e .sized .jobs-length, e .numbered .size)
+
+-- and has room for its parts
 pub spread-room : {w : Work} {p : Progress} → TopRoom w p → {close under : Rel} {flag : Bool} {parts : List (List ℕ)} {jobs : List ℕ} {count : ℕ}
     {numbers numbers′ : List ℕ} → Taken close under flag (topOf w p .set) parts jobs count numbers numbers′ → 0 < count → SpreadRoom count parts jobs w p
 spread-room m cut some = record { top = m; sized = cut .sized; some = some; few = cut .few; same-jobs = cut-jobs cut }
@@ -91,7 +97,7 @@ module _ {n : ℕ} {under tied free : Rel} (t : Tables n under tied free) where
         }
 
     module _ {w′ : Work} {forward′ reverse′ : List ℕ} {q : Progress} where
-      pub turn-next : {ok : Bool} → Turned tied free under w forward reverse p w′ forward′ reverse′ q ok → ok ≡ true
+      pub turn-next : {ok : Bool} → Stepped tied free under w forward reverse p w′ forward′ reverse′ q ok → ok ≡ true
           → Shaping n (transpose under) tied free w′ forward′ reverse′ q
       turn-next (put l) e = leaf-turn t x up l
       turn-next (opens a two g ahead back) e =
@@ -99,13 +105,13 @@ module _ {n : ℕ} {under tied free : Rel} (t : Tables n under tied free) where
       turn-next (stays a one more) e = absurd (clash e refl)
 
       -- one field more
-      pub turn-more : {ok : Bool} → Turned tied free under w forward reverse p w′ forward′ reverse′ q ok → ok ≡ true → q .count ≡ p .count + 1
+      pub turn-more : {ok : Bool} → Stepped tied free under w forward reverse p w′ forward′ reverse′ q ok → ok ≡ true → q .count ≡ p .count + 1
       turn-more (put l) e = l .one-field
       turn-more (opens a two g ahead back) e = g .one-field
       turn-more (stays a one more) e = absurd (clash e refl)
 
       -- there is no tree
-      pub turn-none : {ok : Bool} → Turned tied free under w forward reverse p w′ forward′ reverse′ q ok → ok ≡ false
+      pub turn-none : {ok : Bool} → Stepped tied free under w forward reverse p w′ forward′ reverse′ q ok → ok ≡ false
           → treeOf n (transpose under) ≡ none
       turn-none (put l) e = absurd (clash refl e)
       turn-none (opens a two g ahead back) e = absurd (clash refl e)

@@ -85,7 +85,7 @@ pub record Leafed (w : Work) (forward reverse : List ℕ) (p : Progress) (w′ :
   pub one-job : q .placed ≡ p .placed + 1
 
 -- a set taken apart
-pub record Apart (near under : Rel) (series : Bool) (s : List ℕ) : Type 0 where
+pub record Parted (near under : Rel) (series : Bool) (s : List ℕ) : Type 0 where
   pub parts : List (List ℕ)
   pub jobs : List ℕ
   pub count : ℕ
@@ -94,8 +94,8 @@ pub record Apart (near under : Rel) (series : Bool) (s : List ℕ) : Type 0 wher
   pub taken : Taken near under series s parts jobs count numbers numbers′
 
 -- an entry taken apart as its kind asks
-abbrev pub ApartAs : Rel → Rel → Rel → Entry → Type 0
-ApartAs tied free under e = Apart (closeOf (e .series) tied free) under (e .series) (e .set)
+abbrev pub PartedAs : Rel → Rel → Rel → Entry → Type 0
+PartedAs tied free under e = Parted (closeOf (e .series) tied free) under (e .series) (e .set)
 
 -- all jobs below n are on the stack, and nothing is written
 
@@ -109,15 +109,15 @@ begun = record { height = 1; count = 0; groups = 0; placed = 0 }
 pub record Rooted (n : ℕ) (free under : Rel) (w w′ : Work) (q : Progress) : Type 0 where
   pub all : List ℕ
   pub is-all : (v : ℕ) → has all v ≡ ltb v n
-  pub split : Apart free under true all
+  pub split : Parted free under true all
   pub apart : 2 ≤ split .count → Grouped (split .count) (split .parts) (allJobs w n all (ltb 1 (split .count))) begun w′ q
   pub whole : split .count < 2 → (w′ ≡ allJobs w n all (ltb 1 (split .count))) × (q ≡ begun)
 
 -- one turn: the top entry is put as a job, or becomes a group; or it is not taken apart, and the writing cannot go on
-pub data Turned (tied free under : Rel) (w : Work) (forward reverse : List ℕ) (p : Progress) (w′ : Work) (forward′ reverse′ : List ℕ) (q : Progress)
+pub data Stepped (tied free under : Rel) (w : Work) (forward reverse : List ℕ) (p : Progress) (w′ : Work) (forward′ reverse′ : List ℕ) (q : Progress)
     : Bool → Type 0 where
-  put : Leafed w forward reverse p w′ forward′ reverse′ q → Turned tied free under w forward reverse p w′ forward′ reverse′ q true
-  opens : (a : ApartAs tied free under (topOf w p)) → 2 ≤ a .count → Grouped (a .count) (a .parts) w p w′ q → forward′ ≡ forward → reverse′ ≡ reverse
-      → Turned tied free under w forward reverse p w′ forward′ reverse′ q true
-  stays : (a : ApartAs tied free under (topOf w p)) → a .count < 2 → (sizeOf (topOf w p .set) ≡ 1 → ⊥)
-      → Turned tied free under w forward reverse p w′ forward′ reverse′ q false
+  put : Leafed w forward reverse p w′ forward′ reverse′ q → Stepped tied free under w forward reverse p w′ forward′ reverse′ q true
+  opens : (a : PartedAs tied free under (topOf w p)) → 2 ≤ a .count → Grouped (a .count) (a .parts) w p w′ q → forward′ ≡ forward → reverse′ ≡ reverse
+      → Stepped tied free under w forward reverse p w′ forward′ reverse′ q true
+  stays : (a : PartedAs tied free under (topOf w p)) → a .count < 2 → (sizeOf (topOf w p .set) ≡ 1 → ⊥)
+      → Stepped tied free under w forward reverse p w′ forward′ reverse′ q false

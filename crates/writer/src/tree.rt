@@ -15,7 +15,7 @@ ghost use Rattle.poset.specs.Decompose.{treeOf};
 ghost use Rattle.writer.specs.Shapes.{noShape, shape, shaped};
 ghost use Rattle.writer.specs.Parts.{sizeOf, lead, Jobs, Partial, Sized, Taken, closeOf};
 ghost use Rattle.writer.specs.Stack.{entries, jobsOf, spreadOut, startAt, Stacks, groupField};
-ghost use Rattle.writer.specs.Turns.{work, transpose, Tables, SpreadRoom, Grouped, Rooted, TopRoom, Turned};
+ghost use Rattle.writer.specs.Turns.{work, transpose, Tables, SpreadRoom, Grouped, Rooted, TopRoom, Stepped};
 
 // A group: whether it is a series, where it begins in the reverse sequence, and how many jobs it has.
 pub struct Group {
@@ -277,7 +277,7 @@ fn turn(
     requires { ⌜ Partial (holds (now under)) ⌝ }
     requires { ⌜ (length (now parts) ≡ 128) × (length (now jobs) ≡ 128) × (length (now numbers) ≡ 128) ⌝ }
     requires { ⌜ TopRoom (work (now stack) (now starts) (now kinds) (now sizes) (now fields)) p ⌝ }
-    ensures { λ r. ⌜ Turned (holds (now (tied .entry))) (holds (now (free .entry))) (holds (now (under .entry)))
+    ensures { λ r. ⌜ Stepped (holds (now (tied .entry))) (holds (now (free .entry))) (holds (now (under .entry)))
         (work (now (stack .entry)) (now (starts .entry)) (now (kinds .entry)) (now (sizes .entry)) (now (fields .entry)))
         (now (forward .entry)) (now (reverse .entry)) p
         (work (now (stack .exit)) (now (starts .exit)) (now (kinds .exit)) (now (sizes .exit)) (now (fields .exit)))

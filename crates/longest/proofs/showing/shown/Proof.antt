@@ -23,14 +23,14 @@ loop-holds c = λ xs l. showed-none _ _ _ xs l
 array-write-jobs : tie.Need-array-write-jobs Inv-loop μ-loop
 array-write-jobs c = in-room (c .before)
 
-job-requires : tie.Need-job-requires Inv-loop μ-loop
-job-requires c κs = tt
+wide-u8-requires : tie.Need-wide-u8-requires Inv-loop μ-loop
+wide-u8-requires c κs = tt
 
 element-copy-out-present : tie.Need-element-copy-out-present Inv-loop μ-loop
 element-copy-out-present c =
     let i = c .before .before in
     let (xs, l) = i .before .pre in
-    rw (c .job .ensures) (job-small _ _ _ xs l _ _ _ (i .loop .inv xs l))
+    rw (c .wide-u8 .ensures .0) (job-small _ _ _ xs l _ _ _ (i .loop .inv xs l))
 
 add-count : tie.Need-add-count Inv-loop μ-loop
 add-count c = omega (arith, in-room (c .before .before .before))
@@ -41,7 +41,7 @@ loop-less c = omega (arith, in-room (c .before .before .before))
 loop-again : tie.Need-loop-again Inv-loop μ-loop
 loop-again c =
     let i = c .before .before in λ xs l.
-    rw (c .before .job .ensures) (showed-more _ _ _ xs l _ _ _ (i .before .loop .inv xs l) (i .loop-test .taken))
+    rw (c .before .wide-u8 .ensures .0) (showed-more _ _ _ xs l _ _ _ (i .before .loop .inv xs l) (i .loop-test .taken))
 
 array-write-jobs-2 : tie.Need-array-write-jobs-2 Inv-loop μ-loop
 array-write-jobs-2 c = in-room (c .before)
@@ -60,7 +60,7 @@ shown-spec =
     μ-loop
     loop-holds
     array-write-jobs
-    job-requires
+    wide-u8-requires
     element-copy-out-present
     add-count
     loop-less

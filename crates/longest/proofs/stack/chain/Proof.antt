@@ -69,11 +69,11 @@ sub-k c = omega (arith, c .loop-test .taken)
 element-copy-out-last : tie.Need-element-copy-out-last Inv-loop μ-loop
 element-copy-out-last c = omega (arith, within c)
 
-job-requires : tie.Need-job-requires Inv-loop μ-loop
-job-requires c κs = tt
+wide-u8-requires : tie.Need-wide-u8-requires Inv-loop μ-loop
+wide-u8-requires c κs = tt
 
 element-write-next : tie.Need-element-write-next Inv-loop μ-loop
-element-write-next c = subst (λ (x : ℕ). x < 128) (sym (c .job .ensures)) (link (c .before .before))
+element-write-next c = subst (λ (x : ℕ). x < 128) (sym (c .wide-u8 .ensures .0)) (link (c .before .before))
 
 element-copy-out-first-2 : tie.Need-element-copy-out-first-2 Inv-loop μ-loop
 element-copy-out-first-2 c = omega (arith, within (c .before .before))
@@ -91,7 +91,7 @@ loop-less : tie.Need-loop-less Inv-loop μ-loop
 loop-less c = omega (arith, c .before .before .before .before .loop-test .taken)
 
 loop-again : tie.Need-loop-again Inv-loop μ-loop
-loop-again c = again (c .before .before .before .before) (c .before .before .job .result) (c .before .before .job .ensures)
+loop-again c = again (c .before .before .before .before) (c .before .before .wide-u8 .result) (c .before .before .wide-u8 .ensures .0)
 
 mul-totals : tie.Need-mul-totals Inv-loop μ-loop
 mul-totals c = omega (arith, c .before .before .before .before .pre .1 .inside)
@@ -117,7 +117,7 @@ chain-spec =
     loop-holds
     sub-k
     element-copy-out-last
-    job-requires
+    wide-u8-requires
     element-write-next
     element-copy-out-first-2
     mul-total-2

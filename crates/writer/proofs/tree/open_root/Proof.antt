@@ -12,9 +12,9 @@ use Rattle.poset.proofs.Laws.{ltb-true, lt-true}
 use Rattle.poset.proofs.Sums.{length-below}
 use Rattle.relation.specs.Table.{has, holds}
 use Rattle.writer.specs.declared.tree.Progress.{Progress}
-use Rattle.writer.specs.Turns.{Work, work, SpreadRoom, Grouped, Apart, allJobs, begun}
+use Rattle.writer.specs.Turns.{Work, work, SpreadRoom, Grouped, Parted, allJobs, begun}
 use Rattle.writer.proofs.Roots.{members-all, cut-taken}
-use Rattle.writer.proofs.Turning.{spread-room, root-room, root-taken}
+use Rattle.writer.proofs.Turning.{parted-lengths, spread-room, root-room, root-taken}
 use Rattle.writer.proofs.tree.open_root.Statement.{statement}
 use Rattle.writer.proofs.tree.open_root.Tie as tie
 
@@ -76,7 +76,7 @@ module _ (q : tie.After-split) where
       ap (λ k. work (set (lists .stack) 0 all) (set (lists .starts) 0 0) (set (lists .kinds) 0 (ltb 1 count)) (set (lists .sizes) 0 k) (lists .fields))
       (mod-eq-of-lt (omega (arith, s .pre .0)))
 
-  abbrev apart : Apart (holds (s .args .free .now)) (holds (s .args .under .now)) true all
+  abbrev apart : Parted (holds (s .args .free .now)) (holds (s .args .under .now)) true all
   apart =
       let e = q .split .ensures in
       record { parts = _; jobs = _; count = count; numbers = _; numbers′ = _; taken = cut-taken (e .0) (e .1 .0) (e .1 .1) }
@@ -84,9 +84,6 @@ module _ (q : tie.After-split) where
   as-grouped : {w : Work} {p : Progress} → Grouped count (apart .parts) short begun w p
       → Grouped count (apart .parts) (allJobs lists n all (ltb 1 count)) begun w p
   as-grouped {w = w} {p = p} = subst (λ u. Grouped count (apart .parts) u begun w p) as-all
-
-  lengths : (length (apart .parts) ≡ 128) × (length (apart .jobs) ≡ 128) × (length (apart .numbers′) ≡ 128)
-  lengths = let e = apart .taken in (e .sized .parts-length, e .sized .jobs-length, e .numbered .size)
 
 returns : tie.Need-returns
 returns c =
@@ -98,7 +95,7 @@ returns c =
         apart = λ l. absurd (omega (arith, c .if1 .taken));
         whole = λ l. (as-all q, refl);
       },
-      lengths q,
+      parted-lengths (apart q),
     )
 
 spread-requires : tie.Need-spread-requires
@@ -125,7 +122,7 @@ returns-2 c =
         apart = λ l. as-grouped q (c .spread .ensures);
         whole = λ l. absurd (omega (arith, two));
       },
-      lengths q,
+      parted-lengths (apart q),
     )
 
 pub open-root-spec : {M : Type 1} → statement M

@@ -6,8 +6,8 @@ use mathlib.Core.List.{[]}
 use native.Mathlib.Omega.{arith}
 use lib.ListN.{length, getD}
 use Rattle.relation.specs.Table.{members, holds}
-use Rattle.writer.specs.Turns.{work, topOf, ApartAs, put, opens, stays}
-use Rattle.writer.proofs.Turning.{spread-room}
+use Rattle.writer.specs.Turns.{work, topOf, PartedAs, put, opens, stays}
+use Rattle.writer.proofs.Turning.{parted-lengths, spread-room}
 use Rattle.writer.proofs.tree.turn.Statement.{statement}
 use Rattle.writer.proofs.tree.turn.Tie as tie
 
@@ -72,17 +72,14 @@ module _ (q : tie.After-split-as) where
   abbrev s : tie.Start
   s = started w
 
-  abbrev apart : ApartAs (holds (s .args .tied .now)) (holds (s .args .free .now)) (holds (s .args .under .now))
+  abbrev apart : PartedAs (holds (s .args .tied .now)) (holds (s .args .free .now)) (holds (s .args .under .now))
       (topOf (work (s .args .stack .now) (s .args .starts .now) (s .args .kinds .now) (s .args .sizes .now) (s .args .fields .now)) (s .args .p))
   apart = record { parts = _; jobs = _; count = _; numbers = _; numbers′ = _; taken = q .split-as .ensures }
-
-  lengths : (length (apart .parts) ≡ 128) × (length (apart .jobs) ≡ 128) × (length (apart .numbers′) ≡ 128)
-  lengths = let e = apart .taken in (e .sized .parts-length, e .sized .jobs-length, e .numbered .size)
 
 returns-2 : tie.Need-returns-2
 returns-2 c =
     let q = c .before in
-    (stays (apart q) (c .if2 .taken) (λ e. q .before .before .before .before .before .if1 .left (whole (w q) ∙ e)), lengths q)
+    (stays (apart q) (c .if2 .taken) (λ e. q .before .before .before .before .before .if1 .left (whole (w q) ∙ e)), parted-lengths (apart q))
 
 spread-requires : tie.Need-spread-requires
 spread-requires c κs =
@@ -94,7 +91,7 @@ returns-3 : tie.Need-returns-3
 returns-3 c =
     let q = c .before .before .before .before .before .before .before .before .before in
     let two = c .before .before .before .before .before .before .before .before .if2 .left in
-    (opens (apart q) (omega (arith, two)) (c .spread .ensures) refl refl, lengths q)
+    (opens (apart q) (omega (arith, two)) (c .spread .ensures) refl refl, parted-lengths (apart q))
 
 pub turn-spec : {M : Type 1} → statement M
 turn-spec =
