@@ -24,8 +24,8 @@
  *
  * All this and what is said of the calls below is proved of their source (docs/PROOF.md). Not proved, but true of the
  * source: the calls allocate nothing, keep nothing between calls, and may run on several threads at once. Not proved,
- * but measured: a call takes less than ORDERSHEET_STACK bytes of stack; tests/stack/stack.c measures up to 45,000 for a
- * sheet, 25,000 for a preview and, for bytes offered as a record, 18,000 to read them, 15,000 for a longest run, 16,000
+ * but measured: a call takes less than ORDERSHEET_STACK bytes of stack; tests/stack/stack.c measures up to 46,000 for a
+ * sheet, 26,000 for a preview and, for bytes offered as a record, 18,000 to read them, 15,000 for a longest run, 16,000
  * for gangs and 14,000 for a reason. Not proved, but tested: that this header declares what the library has, and the
  * functions at its end, which are C (tests/header). */
 
@@ -97,7 +97,7 @@ uint64_t ordersheet_read(const uint8_t *record, size_t record_length, uint8_t *r
 typedef struct {
     uint64_t answer;               /* 0, its places 0; or 11, and then all below is 0 */
     uint64_t total;                /* the hours together: at most ORDERSHEET_JOBS times ORDERSHEET_HOURS */
-    uint64_t count;                /* how many jobs it has: at most ORDERSHEET_JOBS */
+    uint64_t count;                /* how many jobs it has: 1 to ORDERSHEET_JOBS */
     uint8_t jobs[ORDERSHEET_JOBS]; /* so many job numbers, earliest first, then zeros */
 } ordersheet_run;
 

@@ -402,6 +402,12 @@ static void bound(const char *name, unsigned number, unsigned most_of_it)
     check(name, "the text of its refusal names another bound", strstr(ordersheet_text(number), digits) != NULL);
 }
 
+/* The text of a number that neither client prints nor a program of DESK.md. */
+static void worded(unsigned number, const char *words)
+{
+    check(words, "the text of its number is another", strcmp(ordersheet_text(number), words) == 0);
+}
+
 /* Each number has a text of its own, and all that are none have one more. */
 static void texts(void)
 {
@@ -421,6 +427,10 @@ static void texts(void)
     bound("ORDERSHEET_JOBS", ORDERSHEET_REFUSED_JOB_COUNT, ORDERSHEET_JOBS);
     bound("ORDERSHEET_REDUCED_AREA", ORDERSHEET_REFUSED_ORDER_COUNT, ORDERSHEET_REDUCED_AREA / 2);
     bound("ORDERSHEET_HOURS", ORDERSHEET_REFUSED_HOURS, ORDERSHEET_HOURS);
+    worded(ORDERSHEET_ACCEPTED, "accepted");
+    worded(ORDERSHEET_REFUSED_RECORD_AREA, "the record area is shorter than the record");
+    worded(ORDERSHEET_REFUSED_REDUCED_AREA, "the area for reduced orders is shorter than two bytes for each");
+    worded(ORDERSHEET_REFUSED_RECORD, "the bytes are not the record of any plain tree");
 }
 
 /* The count of records of every count: free jobs, and jobs in a chain. */

@@ -1,5 +1,5 @@
--- What a run has at most, by the leaves of its tree: hours, jobs, and one job so often.
-use Prim.Native.Nat.{ℕ, _+_, _*_, _≤_}
+-- What a run has at most, by the leaves of its tree: hours, jobs, and one job so often. It has a job at least.
+use Prim.Native.Nat.{ℕ, _+_, _*_, _≤_, _<_}
 use mathlib.Core.Path.{_≡_, refl}
 use mathlib.Core.List.{List, [], _∷_, _++_, map, flatMap}
 use mathlib.Core.Bool.{true, false}
@@ -66,6 +66,27 @@ run-short hours t =
       measured hours (λ a. length (a .1)) (λ a b. omega (arith, length-append (a .1) (b .1))) (λ j. 1) (λ j. omega arith) t,
       sum-const 1 (leaves t),
     )
+
+joined-some : (k : Kind) (a b : WorkRun) → 0 < length (a .1) → 0 < length (b .1) → 0 < length (joinedRuns k a b .1)
+unfolding joinedRuns
+joined-some series a b p q = omega (arith, p, length-append (a .1) (b .1))
+joined-some parallel a b p q =
+    ⊎-elim
+    (λ (e : ltb (a .0) (b .0) ≡ true). rw e q)
+    (λ (e : ltb (a .0) (b .0) ≡ false). rw e p)
+    (decided (ltb (a .0) (b .0)))
+
+module _ (hours : ℕ → ℕ) where
+  mutual
+    unfolding longest
+
+    pub run-some : (t : Tree) → 0 < length (longest hours t .1)
+    run-some (leaf j) = omega arith
+    run-some (node k t f) = joined-some k (longest hours t) (forestLongest hours k f) (run-some t) (forest-some k f)
+
+    forest-some : (k : Kind) (f : Forest) → 0 < length (forestLongest hours k f .1)
+    forest-some k (last t) = run-some t
+    forest-some k (more t f) = joined-some k (longest hours t) (forestLongest hours k f) (run-some t) (forest-some k f)
 
 -- how often one stands in it
 

@@ -1,9 +1,10 @@
 -- What is told of bytes.
-use Prim.Native.Nat.{ℕ, _*_, _≤_}
+use Prim.Native.Nat.{ℕ, _*_, _≤_, _<_}
 use mathlib.Core.Path.{_≡_, refl, ap}
 use mathlib.Core.List.{List, []}
 use mathlib.Core.Logic.{_⊎_}
 use native.Mathlib.Omega.{arith}
+use lib.ListN.{length}
 use Rattle.poset.specs.Order.{Rel}
 use Rattle.poset.specs.Tree.{Tree, Means}
 use Rattle.record.specs.Layout.{mostHours, hoursOf, IsRecord}
@@ -17,7 +18,7 @@ use Rattle.longest.specs.Outcome.{RunOutcome, runOutcome}
 use Rattle.longest.specs.Schedules.{IsFewest, earliestStart}
 use Rattle.longest.proofs.Longest.{longest-is}
 use Rattle.longest.proofs.Scheduling.{tree-fewest}
-use Rattle.longest.proofs.Measures.{run-small}
+use Rattle.longest.proofs.Measures.{run-small, run-short, run-some}
 
 -- the question for the longest run
 
@@ -54,4 +55,11 @@ module _ (bytes : List ℕ) (n : ℕ) (t : Tree) (hours : List ℕ) (spells : Is
         ap (λ (o : RunOutcome). o .total) (run-told bytes n t hours spells),
         run-small mostHours (hoursOf hours) (hours-most hours (spells .small)) t,
         ap (λ (k : ℕ). mostHours * k) (length-leaves n t (spells .spans)),
+      )
+
+  pub jobs-within : (0 < length (runOutcome bytes .jobs)) × (length (runOutcome bytes .jobs) ≤ n)
+  jobs-within =
+      let told = ap (λ (o : RunOutcome). length (o .jobs)) (run-told bytes n t hours spells) in (
+        omega (arith, told, run-some (hoursOf hours) t),
+        omega (arith, told, run-short (hoursOf hours) t, length-leaves n t (spells .spans)),
       )

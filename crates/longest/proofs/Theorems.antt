@@ -1,8 +1,9 @@
 -- All that this crate promises. Each theorem is stated in full and cited. (Document 02, A.3)
-use Prim.Native.Nat.{ℕ, _*_, _≤_}
+use Prim.Native.Nat.{ℕ, _*_, _≤_, _<_}
 use mathlib.Core.Path.{_≡_, refl}
 use mathlib.Core.List.{List, [], map, flatMap}
 use mathlib.Core.Logic.{_↔_, _≢_}
+use lib.ListN.{length}
 use Rattle.poset.specs.Lists.{sum}
 use Rattle.poset.specs.Order.{Arc, Rel, before}
 use Rattle.poset.specs.Tree.{series, parallel, Tree, node, Forest, more, trees, precedes, Means}
@@ -95,6 +96,12 @@ record-fewest bytes n t hours r =
 pub total-small
     : (bytes : List ℕ) (n : ℕ) (t : Tree) (hours : List ℕ) → IsRecord bytes n t hours → runOutcome bytes .total ≤ mostHours * n
 total-small = Records.total-small
+
+-- one job at least, and no more than the record has
+pub jobs-within
+    : (bytes : List ℕ) (n : ℕ) (t : Tree) (hours : List ℕ) → IsRecord bytes n t hours
+    → (0 < length (runOutcome bytes .jobs)) × (length (runOutcome bytes .jobs) ≤ n)
+jobs-within = Records.jobs-within
 
 -- Of a sheet: bytes are refused exactly when no accepted sheet yields them; the run of an accepted sheet's record is the longest of the sheet's
 -- own order and hours.

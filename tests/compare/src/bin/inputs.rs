@@ -1,4 +1,4 @@
-//! `inputs DIR` writes some hundred sheets into the directory, one to a file:
+//! `inputs DIR` writes some 260 sheets into the directory, one to a file:
 //! the papers' cases, and orders of every kind from a fixed seed.
 
 use compare::generate::*;
