@@ -61,9 +61,9 @@ module _ (w : Work) (n : ℕ) (all : List ℕ) (flag : Bool) (few : n ≤ 128) (
       (sym (ap (λ (e : Entry). e .series) top-is ∙ e)) (sym (ap (λ (e : Entry). e .set) top-is))
 
 module _ {n : ℕ} {under tied free : Rel} (t : Tables n under tied free) where
-  pub root-shaping : 0 < n → {w w′ : Work} {q : Progress} → Rooted n free under w w′ q → StacksOf w 0 → w .fields ≡ replicate 256 0
+  root-blank : 0 < n → {w w′ : Work} {q : Progress} → Rooted n free under w w′ q → StacksOf w 0 → w .fields ≡ replicate 256 0
       → Shaping n (transpose under) tied free w′ (replicate 128 0) (replicate 128 0) q
-  root-shaping pos {w = w} x z blank =
+  root-blank pos {w = w} x z blank =
       let all = x .all in
       let cut = x .split .taken in
       let flag = ltb 1 (x .split .count) in
@@ -77,6 +77,12 @@ module _ {n : ℕ} {under tied free : Rel} (t : Tables n under tied free) where
             let same = x .whole (omega arith) in
             subst₂ (λ u p. Shaping n (transpose under) tied free u (replicate 128 0) (replicate 128 0) p) (sym (same .0)) (sym (same .1)) first
       ]
+
+  pub root-shaping : 0 < n → {w w′ : Work} {forward reverse : List ℕ} {q : Progress} → Rooted n free under w w′ q → StacksOf w 0
+      → (w .fields ≡ replicate 256 0) × (forward ≡ replicate 128 0) × (reverse ≡ replicate 128 0)
+      → Shaping n (transpose under) tied free w′ forward reverse q
+  root-shaping pos {w = w} {w′ = w′} {q = q} x z (blank, ahead, back) =
+      subst₂ (λ f b. Shaping n (transpose under) tied free w′ f b q) (sym ahead) (sym back) (root-blank pos x z blank)
 
   module _ {w : Work} {forward reverse : List ℕ} {p : Progress} (x : Shaping n (transpose under) tied free w forward reverse p) (up : 0 < p .height) where
     pub turn-room : TopRoom w p

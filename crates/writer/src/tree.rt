@@ -8,7 +8,7 @@ ghost use mathlib.Core.Path.{_≡_};
 ghost use mathlib.Core.Bool.{true, false, _&&_, _||_, not};
 ghost use lib.Dec.{eqb, ltb};
 ghost use mathlib.Core.List.{_++_};
-ghost use lib.ListN.{length, take, getD, set};
+ghost use lib.ListN.{length, take, getD, set, replicate};
 ghost use Rattle.relation.specs.Table.{members, holds, Inside};
 ghost use Rattle.poset.specs.Order.{Strict};
 ghost use Rattle.poset.specs.Decompose.{treeOf};
@@ -360,8 +360,8 @@ fn shaped(p: Progress, fields: [u16; NODE_ROOM], forward: [u8; 128], reverse: [u
     }
 }
 
-// The tree from its root on, one set of the stack after another. A set of two jobs or more that cannot be taken apart, as its kind
-// asks, has an N.
+// The tree from its root on, one set of the stack after another, or that there is none: a set of two jobs or more that cannot be taken
+// apart, as its kind asks, has an N.
 fn grow(
     tied: &[[u64; 2]; 128],
     free: &[[u64; 2]; 128],
@@ -374,15 +374,18 @@ fn grow(
     starts: &mut [usize; 128],
     kinds: &mut [bool; 128],
     sizes: &mut [u8; 128],
-) -> Shape
+    fields: &mut [u16; NODE_ROOM],
+    forward: &mut [u8; 128],
+    reverse: &mut [u8; 128],
+) -> Step
     requires { ⌜ (0 < n) × Tables n (holds (now under)) (holds (now tied)) (holds (now free)) ⌝ }
     requires { ⌜ (length (now parts) ≡ 128) × (length (now jobs) ≡ 128) × (length (now numbers) ≡ 128) ⌝ }
     requires { ⌜ Stacks (now stack) (now starts) (now kinds) (now sizes) 0 ⌝ }
-    ensures { λ r. ⌜ r ≡ shape (treeOf n (transpose (holds (now (under .entry))))) ⌝ }
+    requires { ⌜ (now fields ≡ replicate 256 0) × (now forward ≡ replicate 128 0) × (now reverse ≡ replicate 128 0) ⌝ }
+    ensures { λ r. ⌜ (r .ok ≡ true → shaped (r .p) (now (fields .exit)) (now (forward .exit)) (now (reverse .exit))
+        ≡ shape (treeOf n (transpose (holds (now (under .entry)))))) ⌝ }
+    ensures { λ r. ⌜ (r .ok ≡ false → noShape ≡ shape (treeOf n (transpose (holds (now (under .entry)))))) ⌝ }
 {
-    let mut fields = [0; NODE_ROOM];
-    let mut forward = [0; 128];
-    let mut reverse = [0; 128];
     let mut p = open_root(
         free,
         under,
@@ -394,7 +397,7 @@ fn grow(
         starts,
         kinds,
         sizes,
-        &mut fields,
+        fields,
     );
     while 0 < p.height {
         let next = turn(
@@ -408,17 +411,17 @@ fn grow(
             starts,
             kinds,
             sizes,
-            &mut fields,
-            &mut forward,
-            &mut reverse,
+            fields,
+            forward,
+            reverse,
             p,
         );
         if !next.ok {
-            return no_shape();
+            return next;
         }
         p = next.p;
     }
-    shaped(p, fields, forward, reverse)
+    Step { ok: true, p }
 }
 
 // The canonical tree of an order, if it has one: what the turns read of the order, and empty lists for them.
@@ -439,7 +442,10 @@ pub fn shape_of(after: [[u64; 2]; 128], under: &[[u64; 2]; 128], n: usize) -> Sh
     let mut starts = [0; 128];
     let mut kinds = [false; 128];
     let mut sizes = [0; 128];
-    grow(
+    let mut fields = [0; NODE_ROOM];
+    let mut forward = [0; 128];
+    let mut reverse = [0; 128];
+    let grown = grow(
         &tied,
         &free,
         under,
@@ -451,5 +457,13 @@ pub fn shape_of(after: [[u64; 2]; 128], under: &[[u64; 2]; 128], n: usize) -> Sh
         &mut starts,
         &mut kinds,
         &mut sizes,
-    )
+        &mut fields,
+        &mut forward,
+        &mut reverse,
+    );
+    if !grown.ok {
+        return no_shape();
+    }
+    let p = grown.p;
+    shaped(p, fields, forward, reverse)
 }

@@ -1,9 +1,10 @@
 -- `tree::grow`: from the root on, turn after turn.
 use borrow.Author.Tests.{not-true, not-false}
 use Prim.Native.Nat.{_-_, _<_}
-use mathlib.Core.Path.{_≡_, refl, sym, ap, _∙_}
+use mathlib.Core.Path.{_≡_, refl, sym, ap}
 use native.Mathlib.Omega.{arith}
 use lib.ListN.{length}
+use Rattle.poset.proofs.Laws.{clash}
 use Rattle.relation.specs.Table.{holds}
 use Rattle.writer.specs.Shapes.{shape}
 use Rattle.writer.specs.Turns.{transpose, work}
@@ -29,12 +30,12 @@ started c = c .before .before .before .before .before .before .before .before .b
 open-root-requires : tie.Need-open-root-requires Inv-loop μ-loop
 open-root-requires c κs =
     let s = c .before .before .before .before .before .before .before .before in
-    ((s .pre .0 .0, s .pre .0 .1 .few), (s .pre .0 .1 .partial, (s .pre .1 .0, s .pre .1 .1)))
+    ((s .pre .0 .0, s .pre .0 .1 .few), (s .pre .0 .1 .partial, (s .pre .1 .0, s .pre .1 .1 .0)))
 
 loop-holds : tie.Need-loop-holds Inv-loop μ-loop
 loop-holds c =
     let r = started c .pre in
-    (c .open-root .ensures .1, root-shaping (r .0 .1) (r .0 .0) (c .open-root .ensures .0) (r .1 .1) refl)
+    (c .open-root .ensures .1, root-shaping (r .0 .1) (r .0 .0) (c .open-root .ensures .0) (r .1 .1 .0) (r .1 .1 .1))
 
 turn-requires : tie.Need-turn-requires Inv-loop μ-loop
 turn-requires c κs =
@@ -42,9 +43,6 @@ turn-requires c κs =
     let l = i .before .before in
     let t = started (l .before) .pre .0 .1 in
     (t .partial, (l .loop .inv .0, turn-room t (l .loop .inv .1) (i .if1 .taken)))
-
-no-shape-requires : tie.Need-no-shape-requires Inv-loop μ-loop
-no-shape-requires c κs = tt
 
 -- a turn that is done
 module _ (c : tie.After-turn Inv-loop μ-loop) where
@@ -59,9 +57,9 @@ module _ (c : tie.After-turn Inv-loop μ-loop) where
 
 returns : tie.Need-returns Inv-loop μ-loop
 returns c =
-    let t = c .before .before .before in
-    c .no-shape .ensures
-    ∙ ap shape (sym (turn-none (start t .pre .0 .1) (at t .loop .inv .1) (up t) (t .turn .ensures .0) (not-true (t .turn .result .ok) (c .before .if2 .taken))))
+    let t = c .before .before in
+    let fails = not-true (t .turn .result .ok) (c .if2 .taken) in
+    (λ e. absurd (clash e fails), λ _. ap shape (sym (turn-none (start t .pre .0 .1) (at t .loop .inv .1) (up t) (t .turn .ensures .0) fails)))
 
 loop-less : tie.Need-loop-less Inv-loop μ-loop
 loop-less c =
@@ -78,16 +76,12 @@ loop-again c =
     let e = t .turn .ensures in
     (e .1, turn-next (start t .pre .0 .1) (at t .loop .inv .1) (up t) (e .0) (not-false (t .turn .result .ok) (c .before .if2 .left)))
 
-shaped-requires : tie.Need-shaped-requires Inv-loop μ-loop
-shaped-requires c κs = tt
-
 returns-2 : tie.Need-returns-2 Inv-loop μ-loop
 returns-2 c =
-    let l = c .before .before .before in
-    let t = started (l .before) .pre .0 .1 in
-    c .shaped .ensures ∙ shape-done t (l .loop .inv .1) (omega (arith, c .before .if1 .left))
+    let l = c .before .before in
+    (λ _. shape-done (started (l .before) .pre .0 .1) (l .loop .inv .1) (omega (arith, c .if1 .left)), λ e. absurd (clash refl e))
 
 pub grow-spec : {M : Type 1} → statement M
 grow-spec =
     tie.close
-    (tie.spec Inv-loop μ-loop open-root-requires loop-holds turn-requires no-shape-requires returns loop-less loop-again shaped-requires returns-2)
+    (tie.spec Inv-loop μ-loop open-root-requires loop-holds turn-requires returns loop-less loop-again returns-2)
