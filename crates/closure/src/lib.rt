@@ -1,4 +1,7 @@
 //! The transitive closure of a table, and how many joins of one row into another it takes.
+
+#![tactic(auto)]
+
 mod finishing;
 pub mod passes;
 

@@ -1,4 +1,7 @@
 //! The planning desk's calls, for C: an answer is one number. An analysis hands back no sequences and no hours.
+
+#![tactic(auto)]
+
 pub mod answer;
 
 ghost use Rattle.std.specs.Prelude.{◌≡◌, [], length};

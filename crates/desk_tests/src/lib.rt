@@ -1,5 +1,8 @@
 //! For tests alone: the desk's calls, and beside them what the desk does not hand out: the sequences, the hours that are read back, and the
 //! analysis of a pair list.
+
+#![tactic(auto)]
+
 ghost use Rattle.std.specs.Prelude.{◌≡◌, [], length};
 ghost use Rattle.poset.specs.Areas.{padded};
 ghost use Rattle.analysis.specs.Outcome.{sheet_outcome, pair_outcome, record_outcome};

@@ -1,4 +1,7 @@
 //! The fewest gangs of a record, where a gang holds jobs that are ordered among themselves.
+
+#![tactic(auto)]
+
 mod numbering;
 
 ghost use Rattle.gangs.specs.Outcome.{gang_outcome, Shows};

@@ -1,4 +1,7 @@
 //! The longest run of work of a record.
+
+#![tactic(auto)]
+
 mod showing;
 mod stack;
 

@@ -1,4 +1,7 @@
 //! Reads a sheet from standard input and prints what it gives.
+
+#![tactic(auto)]
+
 ghost use Rattle.std.specs.Prelude.{◌+◌, ◌≤◌, ◌≡◌, length};
 ghost use Rattle.printer.specs.Buffer.{Prints};
 ghost use Rattle.ordersheet.specs.Reading.{buffer_size, told, MoreRead, InputRead, answered};

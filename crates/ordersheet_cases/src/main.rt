@@ -1,4 +1,7 @@
 //! Prints what each file that is named as an argument gives, a sheet or a record, to compare with the file stdout.
+
+#![tactic(auto)]
+
 use libc::STDOUT_FILENO;
 use printer::outcome;
 

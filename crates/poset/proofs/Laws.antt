@@ -23,6 +23,7 @@ clash p q = true≢false (sym p ∙ q)
 
 pub T_true : (b : Bool) → T b → b ≡ true
 T_true true h = refl
+T_true false h = elim h [ ]
 
 pub true_T : (b : Bool) → b ≡ true → T b
 true_T b e = subst T (sym e) tt

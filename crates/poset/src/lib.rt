@@ -1,1 +1,3 @@
 //! Definitions and theorems alone: see specs/ and proofs/Theorems.antt.
+
+#![tactic(auto)]

@@ -1,4 +1,7 @@
 //! The answer on a pair list with one more order at its end, before it is written there.
+
+#![tactic(auto)]
+
 mod ends;
 mod limits;
 mod order;

@@ -1,4 +1,7 @@
 //! A record read back: its job count, groups, sequences and hours, or its nodes, or that the bytes are no record; and the order of the sequences.
+
+#![tactic(auto)]
+
 pub mod ahead;
 mod groups;
 mod listing;

@@ -1,4 +1,7 @@
 //! For benchmarks alone: a record read as the product reads it, whole.
+
+#![tactic(auto)]
+
 ghost use Rattle.record.specs.Decode.{decode};
 ghost use Rattle.reader.specs.Answer.{reading};
 ghost use Rattle.reader_bench.specs.Handed.{Handed};

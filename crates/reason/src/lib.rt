@@ -1,4 +1,7 @@
 //! The reason between two jobs of a record: the lowest group over both, and how it orders them.
+
+#![tactic(auto)]
+
 mod seeking;
 
 ghost use Rattle.std.specs.Prelude.{◌≡◌};

@@ -1,4 +1,7 @@
 //! The bytes of a record: see specs/ and proofs/Theorems.antt.
+
+#![tactic(auto)]
+
 ghost use Rattle.std.specs.Prelude.{◌<◌, ◌≡◌};
 
 // No record has more bytes.

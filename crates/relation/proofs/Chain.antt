@@ -15,7 +15,7 @@ use Rattle.relation.proofs.Covers.{covers_inside}
 use Rattle.relation.specs.Arcs.{place_from, place, outside}
 
 -- nothing passes a test that has no place
-place_none : (p : Arc → Bool) (k : ℕ) {a : Arc} {arcs : List Arc} → Memᴰ a arcs → place_from k p arcs ≡ none → p a ≡ false
+place_none : (p : Arc → Bool) {a : Arc} (k : ℕ) {arcs : List Arc} → Memᴰ a arcs → place_from k p arcs ≡ none → p a ≡ false
 unfolding place_from
 place_none p k (Memᴰ.head {x = x} {xs = xs} e) h = ap p e ∙ false_unless (p x) (λ t. found_clash {a = k} (rw (place_from, t)) h)
 place_none p k (Memᴰ.tail {x = x} {xs = xs} m) h =

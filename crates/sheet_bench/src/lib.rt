@@ -1,5 +1,7 @@
 //! The reader of sheets for a C program that measures it.
 
+#![tactic(auto)]
+
 ghost use Rattle.std.specs.Prelude.{◌≡◌};
 ghost use Rattle.sheet.specs.Scan.{scan};
 ghost use Rattle.sheet.specs.Listing.{result_of, hours_in, arcs_in, hours_listing, listing};

@@ -1,6 +1,8 @@
 //! Reads sheets from standard input and prints what the reader says of each, to compare with the file stdout.
 //! A case is a name, a colon, the bytes of a sheet, and the byte 254.
 
+#![tactic(auto)]
+
 ghost use Rattle.std.specs.Prelude.{◌≤◌, length};
 
 use libc::{STDIN_FILENO, STDOUT_FILENO};

@@ -1,4 +1,7 @@
 //! The record of an order: its canonical tree, found from the closed table, and the tree's bytes.
+
+#![tactic(auto)]
+
 mod arrange;
 mod pack;
 mod parts;

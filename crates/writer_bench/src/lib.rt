@@ -1,4 +1,7 @@
 //! The writing of crate `writer`, called from C by bench/writer. Arcs that do not fit are refused.
+
+#![tactic(auto)]
+
 ghost use Rattle.std.specs.Prelude.{ℕ, ◌*◌, ◌<◌, ◌≤◌, ◌^◌, ◌≡◌};
 ghost use Rattle.poset.specs.Order.{Strict};
 ghost use Rattle.poset.specs.Decompose.{tree_of};

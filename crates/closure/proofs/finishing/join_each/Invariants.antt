@@ -1,0 +1,11 @@
+-- `closure::finishing::join_each` meets its contract.
+use lib.ListN.{length}
+use Rattle.relation.specs.Table.{members}
+use Rattle.closure.proofs.Joining.{Joined}
+use Rattle.closure.proofs.finishing.join_each.Given as goal
+
+abbrev pub invariant-loop-rest : goal.invariant-loop-rest
+invariant-loop-rest l = Joined l.rows l.initial.whole l.initial.rest l.initial.joins l.whole l.rest l.joins
+
+abbrev pub decreases-loop-rest : goal.decreases-loop-rest
+decreases-loop-rest l = length (members l.rest)

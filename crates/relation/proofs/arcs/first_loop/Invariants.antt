@@ -1,0 +1,12 @@
+-- `relation::arcs::first_loop` meets its contract.
+use Prim.Native.Nat.{◌-◌}
+use lib.ListN.{length}
+use Rattle.relation.specs.Arcs.{loop}
+use Rattle.relation.proofs.Flat.{Searched}
+use Rattle.relation.proofs.arcs.first_loop.Given as goal
+
+abbrev pub invariant-loop-i : goal.invariant-loop-i
+invariant-loop-i l = Searched loop l.arcs l.i
+
+abbrev pub decreases-loop-i : goal.decreases-loop-i
+decreases-loop-i l = length l.arcs - l.i

@@ -1,0 +1,34 @@
+-- `relation::order::first_on_cycle` meets its contract.
+use native.Mathlib.Omega.{arith}
+use mathlib.Core.Path.{sym, ◌∙◌}
+use Rattle.poset.specs.Lists.{only_if}
+use Rattle.poset.specs.Order.{first_on_cycle_of}
+use Rattle.relation.specs.Table.{holds}
+use Rattle.relation.proofs.Lists.{looked_none, looked_hit, looked_next, looked_end}
+use borrow.Author.Rules.{rules}
+use Rattle.relation.proofs.order.first_on_cycle.Invariants.{at}
+use Rattle.relation.proofs.order.first_on_cycle.Goals as goal
+
+pub loop-u-init : goal.loop-u-init
+loop-u-init c = looked_none (at c.args.t) c.args.n
+
+pub returns-then-contains : goal.returns-then-contains
+unfolding first_on_cycle_of holds only_if
+returns-then-contains c =
+    let l = c in
+    looked_hit (at l.args.t) l.args.n l.loop-u.u l.loop-u.invariant (search rules)
+    (rw (sym c.contains.ensures ∙ c.if-contains.true))
+
+pub loop-u-smaller : goal.loop-u-smaller
+loop-u-smaller c = omega arith
+
+pub loop-u-preserved : goal.loop-u-preserved
+unfolding first_on_cycle_of holds only_if
+loop-u-preserved c =
+    let l = c in
+    looked_next (at l.args.t) l.args.n l.loop-u.u l.loop-u.invariant (search rules)
+    (rw (sym c.contains.ensures ∙ c.if-contains.false))
+
+pub returns : goal.returns
+unfolding first_on_cycle_of holds only_if
+returns c = looked_end (at c.args.t) c.args.n c.loop-u.u c.loop-u.invariant c.loop-u-test.false

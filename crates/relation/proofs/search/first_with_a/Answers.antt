@@ -1,0 +1,61 @@
+-- `relation::search::first_with_a` meets its contract.
+use mathlib.Core.Path.{sym, ap, ◌∙◌}
+use Rattle.poset.specs.Lists.{below}
+use Rattle.poset.proofs.Searches.{at_b}
+use Rattle.relation.specs.Table.{holds}
+use Rattle.relation.specs.Arcs.{found_four}
+use Rattle.relation.proofs.Sets.{members_less}
+use Rattle.relation.proofs.Sought.{beside_first, beside_next, sought_hit, sought_end}
+use Rattle.relation.proofs.search.first_with_a.Goals as goal
+
+pub loop-bs-init : goal.loop-bs-init
+unfolding holds
+loop-bs-init c =
+    let s = c in
+    beside_first s.args.n (holds s.args.after.now) s.args.a _ s.requires.n_bound.0 s.requires.n_bound.1 (s.requires.by_index s.args.a)
+
+pub smallest-b-requires : goal.smallest-b-requires
+smallest-b-requires c = sym c.inhabited.ensures ∙ c.loop-bs-test.true
+
+pub first_with_b-found-requires : goal.first_with_b-found-requires
+first_with_b-found-requires c =
+    record {
+      n_bound = (c.requires.n_bound.0, c.loop-bs.invariant.beside _ c.smallest-b.ensures.member);
+      inside = c.requires.inside;
+      by_index = c.requires.by_index;
+    }
+
+pub returns-in_default : goal.returns-in_default
+returns-in_default c =
+    let w = c in
+    let q = w in
+    let l = q.loop-bs in
+    let s = q in
+    let e = ap found_four c.in_default.is in
+    e
+    ∙ sought_hit (at_b s.args.n (holds s.args.after.now) s.args.a) (below s.args.n) l.bs l.invariant.sought _ q.smallest-b.ensures
+    (sym w.first_with_b-found.ensures ∙ e)
+
+pub without_smallest-others-requires : goal.without_smallest-others-requires
+without_smallest-others-requires c = let q = c in sym q.inhabited.ensures ∙ q.loop-bs-test.true
+
+pub loop-bs-smaller : goal.loop-bs-smaller
+loop-bs-smaller c =
+    let q = c in
+    members_less q.loop-bs.bs _ _ q.smallest-b.ensures c.without_smallest-others.ensures
+
+pub loop-bs-preserved : goal.loop-bs-preserved
+loop-bs-preserved c =
+    let w = c in
+    let q = w in
+    let l = q.loop-bs in
+    let s = q in
+    beside_next s.args.n (holds s.args.after.now) s.args.a l.bs l.invariant _ q.smallest-b.ensures _ c.without_smallest-others.ensures
+    (sym w.first_with_b-found.ensures ∙ ap found_four c.in-Nothing.is)
+
+pub returns : goal.returns
+returns c =
+    let l = c.loop-bs in
+    let s = c in
+    sought_end (at_b s.args.n (holds s.args.after.now) s.args.a) (below s.args.n) l.bs l.invariant.sought
+    (sym c.inhabited.ensures ∙ c.loop-bs-test.false)

@@ -1,0 +1,78 @@
+-- `relation::search::first_with_b` meets its contract.
+use Prim.Native.Nat.{◌<◌}
+use native.Mathlib.Omega.{arith}
+use mathlib.Core.Path.{sym, ap, ◌∙◌}
+use Rattle.relation.specs.Table.{holds}
+use Rattle.relation.specs.Arcs.{found}
+use Rattle.relation.proofs.Sought.{apart_both, Sides, no_fourth, no_third, third_small, third_found}
+use Rattle.relation.proofs.search.first_with_b.Goals.{Start, After-intersection-cs}
+use Rattle.relation.proofs.search.first_with_b.Goals as goal
+
+bounds : (c : goal.Start) → (c.args.a < 128) × (c.args.b < 128)
+bounds c = let ab = apart_both _ _ _ _ c.requires.n_bound.1 in let l = c.requires.n_bound.0 in (omega arith, omega arith)
+
+-- both sets are known
+sides : (c : goal.After-intersection-cs)
+    → Sides c.args.n (holds c.args.after.now) c.args.a c.args.b (holds c.args.free.now) c.intersection-cs.result c.intersection-ds.result
+unfolding holds
+sides c = record {
+  small = c.requires.n_bound.0;
+  inside = c.requires.inside;
+  apart_ab = c.requires.n_bound.1;
+  frees = c.requires.by_index;
+  above = c.intersection-cs.ensures;
+  beside = c.intersection-ds.ensures;
+}
+
+pub offset_bounds-after-b : goal.offset_bounds-after-b
+offset_bounds-after-b c = omega (arith, bounds (goal.at.offset_bounds-after-b c).Start)
+
+pub bounds-after-b : goal.bounds-after-b
+bounds-after-b c = omega (arith, bounds (goal.at.bounds-after-b c).Start)
+
+pub offset_bounds-free-a : goal.offset_bounds-free-a
+offset_bounds-free-a c = omega (arith, bounds (goal.at.offset_bounds-free-a c).Start)
+
+pub bounds-free-a : goal.bounds-free-a
+bounds-free-a c = omega (arith, bounds (goal.at.bounds-free-a c).Start)
+
+pub offset_bounds-after-a : goal.offset_bounds-after-a
+offset_bounds-after-a c = omega (arith, bounds (goal.at.offset_bounds-after-a c).Start)
+
+pub bounds-after-a : goal.bounds-after-a
+bounds-after-a c = omega (arith, bounds (goal.at.bounds-after-a c).Start)
+
+pub offset_bounds-after-b-2 : goal.offset_bounds-after-b-2
+offset_bounds-after-b-2 c = omega (arith, bounds (goal.at.offset_bounds-after-b-2 c).Start)
+
+pub bounds-after-b-2 : goal.bounds-after-b-2
+bounds-after-b-2 c = omega (arith, bounds (goal.at.bounds-after-b-2 c).Start)
+
+pub returns-then-not-inhabited : goal.returns-then-not-inhabited
+returns-then-not-inhabited c =
+    let q = c in
+    no_fourth _ _ _ _ _ _ _ (sides (goal.at.returns-then-not-inhabited c).After-intersection-cs) (sym c.inhabited.ensures ∙ c.if-not-inhabited.true)
+
+pub offset_bounds-free-c : goal.offset_bounds-free-c
+offset_bounds-free-c c =
+    let w = c in
+    omega (arith, third_small _ _ _ _ _ _ _ (sides (goal.at.offset_bounds-free-c c).After-intersection-cs) _ w.first_by_words-found.ensures _ (ap found c.in-At.is))
+
+pub bounds-free-c : goal.bounds-free-c
+bounds-free-c c =
+    let w = c in
+    third_small _ _ _ _ _ _ _ (sides (goal.at.bounds-free-c c).After-intersection-cs) _ w.first_by_words-found.ensures _ (ap found c.in-At.is)
+
+pub returns-in-At : goal.returns-in-At
+unfolding holds
+returns-in-At c =
+    let f = c in
+    let w = f in
+    c.with_smallest.ensures
+    ∙ third_found _ _ _ _ _ _ _ (sides (goal.at.returns-in-At c).After-intersection-cs) _ w.first_by_words-found.ensures _ (ap found c.in-At.is) _
+    c.intersection.ensures
+
+pub returns-in-Nothing : goal.returns-in-Nothing
+returns-in-Nothing c =
+    let w = c in
+    no_third _ _ _ _ _ _ _ (sides (goal.at.returns-in-Nothing c).After-intersection-cs) _ w.first_by_words-found.ensures (ap found c.in-Nothing.is)

@@ -1,0 +1,19 @@
+-- `relation::search::twin` meets its contract.
+use Prim.Native.Nat.{◌-◌}
+use native.Mathlib.Omega.{arith}
+use mathlib.Core.Path.{sym, ◌∙◌}
+use Rattle.relation.specs.Table.{holds}
+use Rattle.relation.proofs.Sets.{same_jobs}
+use Rattle.relation.proofs.search.twin.Goals as goal
+
+pub returns : goal.returns
+unfolding holds
+returns c e =
+    let a = c.args.a in
+    let under = c.requires.by_index in (
+      omega arith,
+      record {
+        rows = same_jobs _ _ (sym c.same.ensures ∙ c.if-not-same.false);
+        columns = λ v l. sym (under (a - 1) v) ∙ same_jobs _ _ (sym c.same-2.ensures ∙ e) v l ∙ under a v;
+      },
+    )

@@ -1,0 +1,12 @@
+-- `relation::set::contains` meets its contract.
+use mathlib.Core.Logic.{inl, inr}
+use Rattle.relation.proofs.Sets.{has_tested}
+use borrow.Author.Rules.{rules}
+use Rattle.relation.proofs.set.contains.Goals as goal
+use Rattle.relation.proofs.set.contains.Goals.{then-v-lt64, else-v-lt64}
+
+pub returns : goal.returns
+returns c =
+    let a = c.args in
+    has_tested a.s a.v c.if-v-lt64.word (search rules)
+    (elim c.if-v-lt64.branch [ then-v-lt64 w ↦ inl (w.if-v-lt64.true, w.word-is) | else-v-lt64 w ↦ inr (w.if-v-lt64.false, w.word-is) ])

@@ -1,0 +1,18 @@
+-- `relation::turning::first_row` meets its contract.
+use native.Mathlib.Omega.{arith}
+use Rattle.relation.proofs.Words.{one_shifted, far_small}
+use Rattle.relation.proofs.Exchanging.{first_within}
+use borrow.Author.Rules.{rules}
+use Rattle.relation.proofs.turning.first_row.Goals as goal
+
+pub overflow_shl-result : goal.overflow_shl-result
+overflow_shl-result c = far_small c.args.e (search rules)
+
+pub overflow_shl-result-2 : goal.overflow_shl-result-2
+overflow_shl-result-2 c = far_small c.args.e (search rules)
+
+pub returns : goal.returns
+returns c =
+    let a = c.args in
+    let row = first_within a.a a.b (search rules) (search rules) a.e (search rules) a.clear (search rules) c.requires.by_index in
+    λ v. rw (one_shifted a.e (omega arith)) (row v)

@@ -1,0 +1,69 @@
+-- `relation::turning::within_words` meets its contract.
+use Prim.Native.Nat.{◌+◌, ◌-◌, ◌<◌}
+use native.Mathlib.Omega.{arith}
+use Rattle.relation.proofs.Words.{one_shifted}
+use Rattle.relation.proofs.Digits.{near, far, near_first, near_second, near_room}
+use Rattle.relation.proofs.Exchanging.{paired_none, paired_next, paired_end}
+use borrow.Author.Rules.{rules}
+use Rattle.relation.proofs.turning.within_words.Goals.{In-loop-m}
+use Rattle.relation.proofs.turning.within_words.Goals as goal
+
+pub loop-m-init : goal.loop-m-init
+loop-m-init c = paired_none c.args.e c.args.t.now _ (search rules)
+
+-- both rows of a pair are among the 128
+room : (c : goal.In-loop-m) → near c.args.e c.loop-m.m + far c.args.e < 128
+room c = let a = c.args in near_room a.e a.w c.loop-m.m (search rules) (search rules) (search rules)
+
+pub overflow_add-u : goal.overflow_add-u
+overflow_add-u c = omega (arith, room (goal.at.overflow_add-u c).In-loop-m)
+
+pub overflow_add-x : goal.overflow_add-x
+overflow_add-x c = omega (arith, room (goal.at.overflow_add-x c).In-loop-m)
+
+pub offset_bounds-t-u : goal.offset_bounds-t-u
+offset_bounds-t-u c = omega (arith, room (goal.at.offset_bounds-t-u c).In-loop-m)
+
+pub bounds-t-u : goal.bounds-t-u
+bounds-t-u c = omega (arith, room (goal.at.bounds-t-u c).In-loop-m)
+
+pub offset_bounds-t-x : goal.offset_bounds-t-x
+offset_bounds-t-x c = omega (arith, room (goal.at.offset_bounds-t-x c).In-loop-m)
+
+pub bounds-t-x : goal.bounds-t-x
+bounds-t-x c = omega (arith, room (goal.at.bounds-t-x c).In-loop-m)
+
+pub offset_bounds-t-u-in-loop-m : goal.offset_bounds-t-u-in-loop-m
+offset_bounds-t-u-in-loop-m c = omega (arith, room (goal.at.offset_bounds-t-u-in-loop-m c).In-loop-m)
+
+pub bounds-t-u-in-loop-m : goal.bounds-t-u-in-loop-m
+bounds-t-u-in-loop-m c = omega (arith, room (goal.at.bounds-t-u-in-loop-m c).In-loop-m)
+
+pub offset_bounds-t-x-in-loop-m : goal.offset_bounds-t-x-in-loop-m
+offset_bounds-t-x-in-loop-m c = omega (arith, room (goal.at.offset_bounds-t-x-in-loop-m c).In-loop-m)
+
+pub bounds-t-x-in-loop-m : goal.bounds-t-x-in-loop-m
+bounds-t-x-in-loop-m c = omega (arith, room (goal.at.bounds-t-x-in-loop-m c).In-loop-m)
+
+pub loop-m-smaller : goal.loop-m-smaller
+loop-m-smaller c = omega arith
+
+pub loop-m-preserved : goal.loop-m-preserved
+loop-m-preserved c =
+    let r = c in
+    let l = r.loop-m in
+    let a = r.args in
+    paired_next a.e a.t.now _ l.t l.m l.invariant _ _
+    (near_first a.e a.w l.m (search rules) (search rules) (search rules))
+    (near_second a.e a.w l.m (search rules) (search rules) (search rules))
+    (room (goal.at.loop-m-preserved c).In-loop-m) _ _ c.first_row.ensures c.second_row.ensures (search rules)
+
+pub returns : goal.returns
+returns c =
+    let l = c.loop-m in
+    let s = c in
+    let a = s.args in
+    let whole = one_shifted (a.w - 1) (omega arith) in record {
+      t_len = l.invariant.rows;
+      by_index_2 = paired_end a.e a.t.now _ l.t l.m l.invariant a.w whole c.loop-m-test.false (search rules) s.requires.until;
+    }
