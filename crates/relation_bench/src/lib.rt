@@ -1,4 +1,7 @@
 //! The steps of crates `closure` and `relation`, called from C by bench/closure, bench/relation and tests/compare. Arcs that do not fit are refused.
+
+#![tactic(auto)]
+
 ghost use Rattle.std.specs.Prelude.{◌≤◌, ◌≡◌, length};
 ghost use Rattle.poset.specs.Order.{Within, before, first_n_of};
 ghost use Rattle.poset.specs.Areas.{overlay, arc_bytes};

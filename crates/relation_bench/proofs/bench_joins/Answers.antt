@@ -1,0 +1,45 @@
+-- `relation_bench::bench_joins` meets its contract.
+use native.Mathlib.Omega.{arith}
+use mathlib.Core.Path.{◌≡◌, sym, ◌∙◌}
+use mathlib.Core.Bool.{true}
+use Rattle.relation.specs.Arcs.{pairs}
+use Rattle.relation_bench.specs.Steps.{fits}
+use Rattle.relation_bench.proofs.Refusals.{fits_within, fits_inside, joins_unfit, joins_fit}
+use Rattle.relation_bench.proofs.bench_joins.Goals.{Else-not-fits}
+use Rattle.relation_bench.proofs.bench_joins.Goals as goal
+
+-- the arcs fit
+fit : (c : goal.Else-not-fits) → fits c.args.n (pairs c.args.arcs.now) ≡ true
+fit c = sym c.fits.ensures ∙ c.if-not-fits.false
+
+pub returns-then-not-fits : goal.returns-then-not-fits
+returns-then-not-fits c =
+    let a = c.args in
+    joins_unfit a.n (pairs a.arcs.now) (sym c.fits.ensures ∙ c.if-not-fits.true)
+
+pub table_of-table-requires : goal.table_of-table-requires
+table_of-table-requires c = λ a m. let w = fits_within _ _ (fit (goal.at.table_of-table-requires c).Else-not-fits) in omega (arith, w.1 a m, w.0)
+
+pub transitive_closure-requires : goal.transitive_closure-requires
+transitive_closure-requires c =
+    let e = fits_inside _ _ (fit (goal.at.transitive_closure-requires c).Else-not-fits) c.table_of-table.result c.table_of-table.ensures in
+    record { n_bound = e.0; inside = e.1 }
+
+pub loop-init : goal.loop-init
+loop-init c = c.transitive_closure.ensures.joins_after
+
+pub transitive_closure-requires-in-loop : goal.transitive_closure-requires-in-loop
+transitive_closure-requires-in-loop c =
+    let e = fits_inside _ _ (fit (goal.at.transitive_closure-requires-in-loop c).Else-not-fits) c.table_of-table.result c.table_of-table.ensures in
+    record { n_bound = e.0; inside = e.1 }
+
+pub loop-smaller : goal.loop-smaller
+loop-smaller c = omega arith
+
+pub loop-preserved : goal.loop-preserved
+loop-preserved c = c.transitive_closure-in-loop.ensures.joins_after
+
+pub returns : goal.returns
+returns c =
+    let t = c in
+    c.loop.invariant ∙ joins_fit _ _ (fit (goal.at.returns c).Else-not-fits) t.table_of-table.result t.table_of-table.ensures
