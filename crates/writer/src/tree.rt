@@ -13,7 +13,7 @@ use record::NODE_ROOM;
 use relation::set;
 
 // A group: whether it is a series, where it begins in the reverse sequence, and how many jobs it has.
-#[derive(Drop)]
+#[derive(Clone, Copy)]
 pub struct Group {
     pub series: bool,
     pub start: usize,

@@ -1,0 +1,42 @@
+-- `parts::first_of`: each step goes to a job before the last.
+use mathlib.Core.Path.{sym, ◌∙◌}
+use Rattle.relation.specs.Table.{holds}
+use Rattle.writer.proofs.Firsts.{down_next, down_falls, down_end}
+use Rattle.writer.proofs.parts.first_of.Goals as goal
+
+pub smallest-x-requires : goal.smallest-x-requires
+smallest-x-requires c = c.requires.below_value
+
+pub loop-x-init : goal.loop-x-init
+unfolding holds
+loop-x-init c =
+    let x = c.smallest-x.ensures in
+    record { small = x.small; member = x.member; before = c.intersection-ahead.ensures }
+
+pub largest-y-requires : goal.largest-y-requires
+largest-y-requires c = sym c.inhabited.ensures ∙ c.loop-x-test.true
+
+pub loop-x-smaller : goal.loop-x-smaller
+unfolding holds
+loop-x-smaller c =
+    let l = c in
+    let s = l in
+    let y = c.largest-y in
+    down_falls (holds s.args.under.now) s.args.s l.loop-x.x l.loop-x.ahead l.loop-x.invariant y.result c.intersection-fewer.result
+    s.requires.partial y.ensures c.intersection-fewer.ensures
+
+pub loop-x-preserved : goal.loop-x-preserved
+unfolding holds
+loop-x-preserved c =
+    let l = c in
+    let s = l in
+    let y = c.largest-y in
+    down_next (holds s.args.under.now) s.args.s l.loop-x.x l.loop-x.ahead l.loop-x.invariant y.result c.intersection-fewer.result
+    y.ensures c.intersection-fewer.ensures
+
+pub returns : goal.returns
+returns c =
+    let l = c in
+    let s = l in
+    down_end (holds s.args.under.now) s.args.s l.loop-x.x l.loop-x.ahead l.loop-x.invariant s.requires.jobs
+    (sym c.inhabited.ensures ∙ c.loop-x-test.false)

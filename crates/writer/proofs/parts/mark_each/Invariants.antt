@@ -1,0 +1,11 @@
+-- `parts::mark_each`: the number at job after job, until none is left.
+use lib.ListN.{length}
+use Rattle.relation.specs.Table.{members}
+use Rattle.writer.proofs.Numbering.{Marking}
+use Rattle.writer.proofs.parts.mark_each.Given as goal
+
+abbrev pub invariant-loop-rest : goal.invariant-loop-rest
+invariant-loop-rest l = Marking l.initial.rest l.rest l.number l.initial.numbers l.numbers
+
+abbrev pub decreases-loop-rest : goal.decreases-loop-rest
+decreases-loop-rest l = length (members l.rest)

@@ -1,0 +1,15 @@
+-- `parts::start_of`: by the kind of group.
+use mathlib.Core.Path.{sym, subst}
+use Rattle.relation.specs.Table.{holds}
+use Rattle.writer.specs.Parts.{StartsAt}
+use Rattle.writer.proofs.parts.start_of.Goals as goal
+
+pub returns-then-series : goal.returns-then-series
+returns-then-series c =
+    let s = c in
+    subst (λ b. StartsAt (holds s.args.under.now) b s.args.s c.first_of.result) (sym c.if-series.true) c.first_of.ensures
+
+pub returns-else-series : goal.returns-else-series
+returns-else-series c =
+    let s = c in
+    subst (λ b. StartsAt (holds s.args.under.now) b s.args.s c.smallest.result) (sym c.if-series.false) c.smallest.ensures

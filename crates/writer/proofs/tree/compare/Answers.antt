@@ -1,0 +1,59 @@
+-- `tree::compare`: row by row, both tables at once.
+use borrow.Author.Rules.{rules}
+use Prim.Native.Nat.{ℕ, ◌-◌}
+use mathlib.Core.Path.{ap₂, ◌∙◌}
+use mathlib.Core.List.{List}
+use mathlib.Core.Bool.{◌&&◌, ◌||◌, not, and_assoc}
+use native.Mathlib.Omega.{arith}
+use lib.Dec.{eqb, ltb}
+use Rattle.poset.specs.Order.{Rel}
+use Rattle.relation.specs.Table.{holds}
+use Rattle.writer.proofs.Rows.{Filled, filled_none, filled_next}
+use Rattle.writer.proofs.tree.compare.Goals as goal
+
+abbrev either : List (List ℕ) → List (List ℕ) → Rel
+either after under u v = holds after u v || holds under u v
+
+abbrev neither : List (List ℕ) → List (List ℕ) → ℕ → Rel
+neither after under n u v = ltb v n && (not (eqb u v) && not (either after under u v))
+
+pub all_below-all-requires : goal.all_below-all-requires
+all_below-all-requires c = c.requires.0
+
+pub loop-u-init : goal.loop-u-init
+loop-u-init c =
+    let s = c in
+    let after = s.args.after.now in
+    let under = s.args.under.now in
+    (filled_none (either after under) _ s.requires.1, filled_none (neither after under s.args.n) _ s.requires.2)
+
+pub only-requires : goal.only-requires
+only-requires c = omega arith
+
+pub loop-u-preserved : goal.loop-u-preserved
+unfolding holds
+loop-u-preserved c =
+    let l = c in
+    let s = l in
+    let after = s.args.after.now in
+    let under = s.args.under.now in
+    let n = s.args.n in
+    let u = l.loop-u.u in
+    let near = c.union-near.ensures in (
+      filled_next (either after under) l.loop-u.tied u c.union-near.result (omega arith) near l.loop-u.invariant.0,
+      filled_next (neither after under n) l.loop-u.free u c.difference.result (omega arith)
+          (λ v.
+          c.difference.ensures v
+          ∙ ap₂ (λ a b. a && not b)
+          (c.difference-others.ensures v ∙ ap₂ (λ a b. a && not b) (l.all_below-all.ensures v) (c.only.ensures v))
+          (near v)
+          ∙ and_assoc (ltb v n) (not (eqb u v)) (not (either after under u v)))
+          l.loop-u.invariant.1,
+    )
+
+pub returns : goal.returns
+returns c =
+    let i = c.loop-u.invariant in record {
+      by_index = (λ u v l. i.0.rows u v (omega arith));
+      by_index_2 = λ u v l. i.1.rows u v (omega arith);
+    }

@@ -1,0 +1,42 @@
+-- `tree::shape_of`: the tables that the turns read, and empty lists.
+use borrow.Author.Rules.{rules}
+use borrow.Author.Tests.{not-true, not-false}
+use mathlib.Core.Path.{◌≡◌, refl, ap, ◌∙◌}
+use native.Mathlib.Omega.{arith}
+use Rattle.poset.specs.Decompose.{tree_of}
+use Rattle.relation.specs.Table.{holds}
+use Rattle.writer.specs.Shapes.{shape}
+use Rattle.writer.specs.Turns.{transpose}
+use Rattle.writer.proofs.Roots.{tables, transpose_is}
+use Rattle.writer.proofs.tree.shape_of.Goals.{After-grow-grown}
+use Rattle.writer.proofs.tree.shape_of.Goals as goal
+
+pub compare-requires : goal.compare-requires
+compare-requires c = (c.requires.n_nonzero.1, refl, refl)
+
+pub grow-grown-requires : goal.grow-grown-requires
+grow-grown-requires c =
+    let k = c in
+    let s = k in
+    let e = k.compare.ensures in record {
+      n_nonzero = (s.requires.n_nonzero.0, tables _ _ _ _ _ s.requires.n_nonzero.1 s.requires.strict s.requires.inside s.requires.by_index e.by_index e.by_index_2);
+      parts_len = (refl, refl, refl);
+      stacks = record { sets_length = refl; starts_length = refl; kinds_length = refl; sizes_length = refl; sized = λ h l. absurd (omega arith) };
+      fields_value = (refl, refl, refl);
+    }
+
+-- the order that is held turned round is the order
+order : (g : goal.After-grow-grown)
+    → shape (tree_of g.args.n (transpose (holds g.args.under.now)))
+    ≡ shape (tree_of g.args.n (holds g.args.after))
+order g = ap (λ r. shape (tree_of g.args.n r)) (transpose_is _ _ g.requires.by_index)
+
+pub returns-then-not-grown : goal.returns-then-not-grown
+returns-then-not-grown c =
+    let g = c in
+    c.no_shape.ensures ∙ g.grow-grown.ensures.no_shape_value (not-true g.grow-grown.result.ok c.if-not-grown.true) ∙ order (goal.at.returns-then-not-grown c).After-grow-grown
+
+pub returns : goal.returns
+returns c =
+    let g = c in
+    c.shaped.ensures ∙ g.grow-grown.ensures.reverse_after (not-false g.grow-grown.result.ok c.if-not-grown.false) ∙ order (goal.at.returns c).After-grow-grown
