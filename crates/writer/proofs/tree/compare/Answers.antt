@@ -1,24 +1,12 @@
 -- `tree::compare`: row by row, both tables at once.
-use borrow.Author.Rules.{rules}
-use Prim.Native.Nat.{ℕ, ◌-◌}
 use mathlib.Core.Path.{ap₂, ◌∙◌}
-use mathlib.Core.List.{List}
-use mathlib.Core.Bool.{◌&&◌, ◌||◌, not, and_assoc}
+use mathlib.Core.Bool.{◌&&◌, not, and_assoc}
 use native.Mathlib.Omega.{arith}
 use lib.Dec.{eqb, ltb}
-use Rattle.poset.specs.Order.{Rel}
 use Rattle.relation.specs.Table.{holds}
-use Rattle.writer.proofs.Rows.{Filled, filled_none, filled_next}
+use Rattle.writer.proofs.Rows.{filled_none, filled_next}
+use Rattle.writer.proofs.tree.compare.Invariants.{either, neither}
 use Rattle.writer.proofs.tree.compare.Goals as goal
-
-abbrev either : List (List ℕ) → List (List ℕ) → Rel
-either after under u v = holds after u v || holds under u v
-
-abbrev neither : List (List ℕ) → List (List ℕ) → ℕ → Rel
-neither after under n u v = ltb v n && (not (eqb u v) && not (either after under u v))
-
-pub all_below-all-requires : goal.all_below-all-requires
-all_below-all-requires c = c.requires.0
 
 pub loop-u-init : goal.loop-u-init
 loop-u-init c =
@@ -26,9 +14,6 @@ loop-u-init c =
     let after = s.args.after.now in
     let under = s.args.under.now in
     (filled_none (either after under) _ s.requires.1, filled_none (neither after under s.args.n) _ s.requires.2)
-
-pub only-requires : goal.only-requires
-only-requires c = omega arith
 
 pub loop-u-preserved : goal.loop-u-preserved
 unfolding holds

@@ -4,7 +4,6 @@ use mathlib.Core.Path.{sym, ap, ◌∙◌}
 use native.Mathlib.Nat.{mod-eq_of_lt}
 use native.Mathlib.Omega.{arith}
 use Rattle.writer.specs.Stack.{group_field_of}
-use borrow.Author.Rules.{rules}
 use Rattle.writer.proofs.tree.group_field.Goals as goal
 
 pub returns-then-series : goal.returns-then-series

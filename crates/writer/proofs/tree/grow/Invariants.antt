@@ -1,15 +1,10 @@
 -- `tree::grow`: from the root on, turn after turn.
-use borrow.Author.Tests.{not-true, not-false}
-use Prim.Native.Nat.{◌-◌, ◌<◌}
-use mathlib.Core.Path.{◌≡◌, refl, sym, ap}
-use native.Mathlib.Omega.{arith}
+use Prim.Native.Nat.{◌-◌}
+use mathlib.Core.Path.{◌≡◌}
 use lib.ListN.{length}
-use Rattle.poset.proofs.Laws.{clash}
 use Rattle.relation.specs.Table.{holds}
-use Rattle.writer.specs.Shapes.{shape}
 use Rattle.writer.specs.Turns.{transpose, work}
-use Rattle.writer.proofs.Shaping.{Shaping, shape_done}
-use Rattle.writer.proofs.Turning.{root_shaping, turn_room, turn_next, turn_more, turn_none}
+use Rattle.writer.proofs.Shaping.{Shaping}
 use Rattle.writer.proofs.tree.grow.Given as goal
 
 abbrev pub invariant-loop-p : goal.invariant-loop-p

@@ -1,5 +1,4 @@
 -- `tree::open_root`: all jobs, taken apart as a series.
-use borrow.Author.Rules.{rules}
 use Prim.Native.Nat.{ℕ, ◌%◌}
 use mathlib.Core.Path.{◌≡◌, refl, sym, ap, subst, ◌∙◌}
 use mathlib.Core.List.{List}
@@ -15,6 +14,7 @@ use Rattle.writer.specs.declared.tree.Progress.{Progress}
 use Rattle.writer.specs.Turns.{Work, work, SpreadRoom, Grouped, Parted, all_jobs, begun}
 use Rattle.writer.proofs.Roots.{members_all, cut_taken}
 use Rattle.writer.proofs.Turning.{parted_lengths, spread_room, root_room, root_taken}
+use Rattle.writer.proofs.tree.open_root.Goals.{After-split-first}
 use Rattle.writer.proofs.tree.open_root.Goals as goal
 
 pub split-first-requires : goal.split-first-requires
@@ -27,57 +27,44 @@ split-first-requires c =
       parts_len = s.requires.parts_len;
     }
 
--- BYHAND
-module _ (q : tie.After-split) where
-  abbrev s : tie.Start
-  s = q.before.before.before.before.before
-
--- BYHAND
+module _ (q : goal.After-split-first) where
   abbrev n : ℕ
-  n = s.args.n
+  n = q.args.n
 
--- BYHAND
   abbrev all : List ℕ
-  all = q.before.before.before.before.all_below_lem.result
+  all = q.all_below-all.result
 
--- BYHAND
   is_all : (v : ℕ) → has all v ≡ ltb v n
-  is_all = q.before.before.before.before.all_below_lem.ensures
+  is_all = q.all_below-all.ensures
 
--- BYHAND
   abbrev count : ℕ
-  count = q.split.result
+  count = q.split-first.result
 
--- BYHAND
   abbrev lists : Work
-  lists = work s.args.stack.now s.args.starts.now s.args.kinds.now s.args.sizes.now s.args.fields.now
+  lists = work q.args.stack.now q.args.starts.now q.args.kinds.now q.args.sizes.now q.args.fields.now
 
--- BYHAND
   -- the jobs fit into a byte
   abbrev short : Work
   short =
       work (set lists.stack 0 all) (set lists.starts 0 0) (set lists.kinds 0 (ltb 1 count)) (set lists.sizes 0 (n % 256)) lists.fields
 
--- BYHAND
   as-all : short ≡ all_jobs lists n all (ltb 1 count)
   as-all =
       ap (λ k. work (set lists.stack 0 all) (set lists.starts 0 0) (set lists.kinds 0 (ltb 1 count)) (set lists.sizes 0 k) lists.fields)
-      (mod-eq_of_lt (omega (arith, s.pre.0)))
+      (mod-eq_of_lt (omega (arith, q.requires.n_nonzero)))
 
--- BYHAND
-  abbrev apart : Parted (holds s.args.free.now) (holds s.args.under.now) true all
+  abbrev apart : Parted (holds q.args.free.now) (holds q.args.under.now) true all
   apart =
-      let e = q.split.ensures in
-      record { parts = _; jobs = _; count = count; numbers = _; numbers' = _; taken = cut_taken e.0 e.1.0 e.1.1 }
+      let e = q.split-first.ensures in
+      record { parts = _; jobs = _; count = count; numbers = _; numbers' = _; taken = cut_taken e.cut e.sized e.numbered }
 
--- BYHAND
   as-grouped : {w : Work} {p : Progress} → Grouped count apart.parts short begun w p
       → Grouped count apart.parts (all_jobs lists n all (ltb 1 count)) begun w p
   as-grouped {w = w} {p = p} = subst (λ u. Grouped count apart.parts u begun w p) as-all
 
 pub returns-then-first-lt2 : goal.returns-then-first-lt2
 returns-then-first-lt2 c =
-    let q = c in record {
+    let q = (goal.at.returns-then-first-lt2 c).After-split-first in record {
       rooted = record {
         all = all q;
         is_all = is_all q;
@@ -90,20 +77,20 @@ returns-then-first-lt2 c =
 
 pub spread-requires : goal.spread-requires
 spread-requires c =
-    let q = c in
+    let q = (goal.at.spread-requires c).After-split-first in
     let two = c.if-first-lt2.false in
-    let few = (s q).requires.0.1 in
+    let few = c.requires.n_nonzero.1 in
     let flag = ltb 1 (count q) in
-    let free = holds (s q).args.free.now in
+    let free = holds c.args.free.now in
     subst (λ w. SpreadRoom (count q) (apart q).parts (apart q).jobs w begun) (sym (as-all q))
-    (spread_room (root_room (lists q) (n q) (all q) flag few (is_all q) (s q).requires.1.1.1 (s q).requires.0.0)
-    (root_taken (lists q) (n q) (all q) flag few (is_all q) (s q).requires.1.1.1 free free (holds (s q).args.under.now)
+    (spread_room (root_room (lists q) (n q) (all q) flag few (is_all q) c.requires.stacks c.requires.n_nonzero.0)
+    (root_taken (lists q) (n q) (all q) flag few (is_all q) c.requires.stacks free free (holds c.args.under.now)
     (lt_true 1 (count q) (omega (arith, two))) (apart q).taken)
     (omega (arith, two)))
 
 pub returns : goal.returns
 returns c =
-    let q = c in
+    let q = (goal.at.returns c).After-split-first in
     let two = c.if-first-lt2.false in record {
       rooted = record {
         all = all q;

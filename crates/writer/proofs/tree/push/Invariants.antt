@@ -1,12 +1,6 @@
 -- `tree::push`: from the last part to the first.
-use Prim.Native.Nat.{ℕ, ◌+◌, ◌-◌, ◌≤◌, ◌<◌}
-use mathlib.Core.Path.{◌≡◌, refl, sym, ◌∙◌}
-use mathlib.Core.List.{List, []}
-use native.Mathlib.Omega.{arith}
-use lib.ListN.{length, get_or}
-use Rattle.relation.specs.Table.{members}
-use Rattle.writer.specs.Stack.{Entry, entries}
-use Rattle.writer.proofs.Stacking.{Pushing, push_start, push_next, push_end, fits_whole}
+use Rattle.writer.specs.Stack.{entries}
+use Rattle.writer.proofs.Stacking.{Pushing}
 use Rattle.writer.proofs.tree.push.Given as goal
 
 abbrev pub invariant-loop-i : goal.invariant-loop-i

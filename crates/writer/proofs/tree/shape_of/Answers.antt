@@ -1,5 +1,4 @@
 -- `tree::shape_of`: the tables that the turns read, and empty lists.
-use borrow.Author.Rules.{rules}
 use borrow.Author.Tests.{not-true, not-false}
 use mathlib.Core.Path.{◌≡◌, refl, ap, ◌∙◌}
 use native.Mathlib.Omega.{arith}
@@ -16,9 +15,8 @@ compare-requires c = (c.requires.n_nonzero.1, refl, refl)
 
 pub grow-grown-requires : goal.grow-grown-requires
 grow-grown-requires c =
-    let k = c in
-    let s = k in
-    let e = k.compare.ensures in record {
+    let s = c in
+    let e = c.compare.ensures in record {
       n_nonzero = (s.requires.n_nonzero.0, tables _ _ _ _ _ s.requires.n_nonzero.1 s.requires.strict s.requires.inside s.requires.by_index e.by_index e.by_index_2);
       parts_len = (refl, refl, refl);
       stacks = record { sets_length = refl; starts_length = refl; kinds_length = refl; sizes_length = refl; sized = λ h l. absurd (omega arith) };
@@ -33,10 +31,8 @@ order g = ap (λ r. shape (tree_of g.args.n r)) (transpose_is _ _ g.requires.by_
 
 pub returns-then-not-grown : goal.returns-then-not-grown
 returns-then-not-grown c =
-    let g = c in
-    c.no_shape.ensures ∙ g.grow-grown.ensures.no_shape_value (not-true g.grow-grown.result.ok c.if-not-grown.true) ∙ order (goal.at.returns-then-not-grown c).After-grow-grown
+    c.no_shape.ensures ∙ c.grow-grown.ensures.no_shape_value (not-true c.grow-grown.result.ok c.if-not-grown.true) ∙ order (goal.at.returns-then-not-grown c).After-grow-grown
 
 pub returns : goal.returns
 returns c =
-    let g = c in
-    c.shaped.ensures ∙ g.grow-grown.ensures.reverse_after (not-false g.grow-grown.result.ok c.if-not-grown.false) ∙ order (goal.at.returns c).After-grow-grown
+    c.shaped.ensures ∙ c.grow-grown.ensures.reverse_after (not-false c.grow-grown.result.ok c.if-not-grown.false) ∙ order (goal.at.returns c).After-grow-grown

@@ -6,7 +6,6 @@ use mathlib.Core.Bool.{Bool}
 use Rattle.poset.specs.Order.{Rel}
 use Rattle.writer.specs.Parts.{Taken, close_of}
 use Rattle.writer.proofs.Roots.{cut_taken, cut_few, cut_leading, cut_arranged}
-use borrow.Author.Rules.{rules}
 use Rattle.writer.proofs.tree.split_as.Goals as goal
 
 -- a set taken apart for one kind, which is the kind asked for
@@ -33,4 +32,4 @@ pub returns-else-series : goal.returns-else-series
 returns-else-series c =
     let e = c.split-count.ensures in
     taken_as _ _ _ _ _ _ _ _ _ c.if-series.false
-    (cut_arranged e.cut e.numbered c.arrange.new.0 c.arrange.new.1.0 c.arrange.ensures.sized_2 c.arrange.ensures.parts_after)
+    (cut_arranged e.cut e.numbered c.arrange.new.parts c.arrange.new.jobs c.arrange.ensures.sized_2 c.arrange.ensures.parts_after)

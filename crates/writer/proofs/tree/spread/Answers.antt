@@ -5,7 +5,6 @@ use mathlib.Core.List.{[], ◌++◌}
 use mathlib.Core.Bool.{false}
 use native.Mathlib.Omega.{arith}
 use lib.ListN.{length, get_or, take}
-use borrow.Author.Rules.{rules}
 use Rattle.relation.specs.Table.{members}
 use Rattle.writer.specs.Stack.{Stacks, entries, spread_out}
 use Rattle.writer.proofs.Stacking.{stacks_lower}
@@ -18,13 +17,12 @@ whole c = c.wide_u8-whole.ensures.0 ∙ c.requires.top.stacks.sized (c.args.p.he
 
 pub push-height-requires : goal.push-height-requires
 push-height-requires c =
-    let w = c in
-    let s = w in
-    let a = s.args in
-    let r = s.requires in
-    let m = r.top in record {
-      count_bound = (omega (arith, m.level, r.few), omega (arith, m.level, r.few), omega (arith, m.fits, whole (goal.at.push-height-requires c).After-wide_u8-whole));
-      sized = (r.sized, r.same_jobs ∙ sym (whole (goal.at.push-height-requires c).After-wide_u8-whole));
+    let a = c.args in
+    let r = c.requires in
+    let m = r.top in
+    let size = whole (goal.at.push-height-requires c).After-wide_u8-whole in record {
+      count_bound = (omega (arith, m.level, r.few), omega (arith, m.level, r.few), omega (arith, m.fits, size));
+      sized = (r.sized, r.same_jobs ∙ sym size);
       stacks = stacks_lower a.stack.now a.starts.now a.kinds.now a.sizes.now a.p.height (a.p.height - 1) (omega arith) m.stacks;
     }
 
@@ -35,13 +33,12 @@ put_group-requires c =
 
 pub returns : goal.returns
 returns c =
-    let w = c in
-    let a = w.args in
+    let a = c.args in
     let push = c.push-height in
-    let stack = push.new.1.1.1.1.0 in
-    let starts = push.new.1.1.1.1.1.0 in
-    let kinds = push.new.1.1.1.1.1.1.0 in
-    let sizes = push.new.1.1.1.1.1.1.1.0 in
+    let stack = push.new.stack in
+    let starts = push.new.starts in
+    let kinds = push.new.kinds in
+    let sizes = push.new.sizes in
     let top = a.p.height - 1 in
     let others = entries a.stack.now a.starts.now a.kinds.now top in
     let g = c.put_group.ensures in

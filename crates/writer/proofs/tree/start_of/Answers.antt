@@ -1,7 +1,6 @@
 -- `tree::start_of`: by the kind of group.
 use mathlib.Core.Path.{sym, ap}
 use Rattle.writer.specs.Stack.{start_at}
-use borrow.Author.Rules.{rules}
 use Rattle.writer.proofs.tree.start_of.Goals as goal
 
 pub returns-then-g : goal.returns-then-g
