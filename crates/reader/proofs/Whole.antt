@@ -1,8 +1,7 @@
 -- A record as a whole: the job count, the tree, and the bits left over.
 use Prim.Native.Nat.{ℕ, suc, ◌+◌, ◌-◌, ◌*◌, ◌^◌, ◌≤◌, ◌<◌}
 use mathlib.Core.Path.{◌≡◌, sym, ap, ap₂, subst, ◌∙◌}
-use mathlib.Core.List.Memᴰ
-use mathlib.Core.List.{List, ◌++◌}
+use mathlib.Core.List.{List, ◌++◌, Memᴰ}
 use mathlib.Core.Bool.{true, false}
 use mathlib.Core.Option.{some}
 use native.Mathlib.Omega.{arith}
@@ -35,13 +34,13 @@ use Rattle.reader.proofs.Sequences.{forward_leaves, walk_reversed, walk_below}
 use Rattle.reader.proofs.Hours.{zeros_at, below_take, hours_each, hours_padded, hours_spelt}
 
 -- a list whose elements are small
-all_below_lem : (m : ℕ) (xs : List ℕ) → ((i : ℕ) → get_or xs i 0 < m) → AllBelow m xs
-all_below_lem m xs h x (Memᴰ.head {x = y} {xs = ys} e) = subst (λ (z : ℕ). z < m) (sym e) (h 0)
-all_below_lem m xs h x (Memᴰ.tail {x = y} {xs = ys} i) = all_below_lem m ys (λ j. h (suc j)) x i
+all_below_lem : (m x : ℕ) (xs : List ℕ) → ((i : ℕ) → get_or xs i 0 < m) → Memᴰ x xs → x < m
+all_below_lem m x xs h (Memᴰ.head {x = y} {xs = ys} e) = subst (λ (z : ℕ). z < m) (sym e) (h 0)
+all_below_lem m x xs h (Memᴰ.tail {x = y} {xs = ys} i) = all_below_lem m x ys (λ j. h (suc j)) i
 
 -- any slice of bytes
 pub slice_below : (bytes : List ℕ) → ((i : ℕ) → Fits w8 (get_or bytes i 0)) → AllBelow 256 bytes
-slice_below bytes fit = all_below_lem 256 bytes (λ i. (fit i).fits)
+slice_below bytes fit x = all_below_lem 256 x bytes (λ i. (fit i).fits)
 
 -- what the bits of a record are
 pub record Spelt (bytes : List ℕ) (n : ℕ) (t : Tree) (hours : List ℕ) : Type 0 where
@@ -86,7 +85,8 @@ ready_first bytes m short count forward next hours blank =
       links = ap length blank.next_is ∙ length-replicate {A = ℕ} 128 0;
       entries = ap length blank.hours_is ∙ length-replicate {A = ℕ} 128 0;
       low =
-          all_below_lem (2 ^ hours_bits) hours
+          λ x.
+          all_below_lem (2 ^ hours_bits) x hours
           (λ i. omega (arith, ap (λ (l : List ℕ). get_or l i 0) blank.hours_is, zeros_at 128 i));
     }
 

@@ -18,7 +18,7 @@ pub fn place(done: u8, groups: u8) -> usize
 }
 
 // `more` + 1 children of a chain.
-#[cycle(chain_chain_child_side_side_child)]
+#[cycle(groups)]
 fn chain(
     bytes: &[u8],
     count: u8,
@@ -59,7 +59,7 @@ fn chain(
 }
 
 // A child of a chain: a leaf or a side group.
-#[cycle(chain_chain_child_side_side_child)]
+#[cycle(groups)]
 fn chain_child(
     bytes: &[u8],
     count: u8,
@@ -100,7 +100,7 @@ fn chain_child(
 
 // `more` + 1 children of a side group, each going ahead of the next. Of the one read last it keeps how many jobs it has, at first more
 // than any child has, and the smallest.
-#[cycle(chain_chain_child_side_side_child)]
+#[cycle(groups)]
 fn side(
     bytes: &[u8],
     count: u8,
@@ -149,7 +149,7 @@ fn side(
 }
 
 // A child of a side group: a leaf or a chain.
-#[cycle(chain_chain_child_side_side_child)]
+#[cycle(groups)]
 fn side_child(
     bytes: &[u8],
     count: u8,
