@@ -1,0 +1,19 @@
+-- `limits::of_list` meets its contract: the first arc that names a job not below the count decides 5.
+use mathlib.Core.Path.{sym, ap, refl, ◌∙◌}
+use Rattle.relation.specs.Arcs.{found}
+use Rattle.analysis.proofs.Crossing.{gives_refused}
+use Rattle.analysis.proofs.Steps.{listed_5}
+use Rattle.analysis.proofs.limits.of_list.Goals as goal
+
+pub of_named-requires : goal.of_named-requires
+of_named-requires c =
+    let s = c in record {
+      n_nonzero = s.requires.n_nonzero;
+      hours_len = s.requires.hours_len;
+      list_value = sym c.first_outside-far.ensures ∙ ap found c.in-Nothing.is;
+    }
+
+pub returns-in-At : goal.returns-in-At
+returns-in-At c =
+    let here = sym c.first_outside-far.ensures ∙ ap found c.in-At.is in
+    gives_refused c.refused.ensures (listed_5 _ _ _ _ _ here) refl

@@ -1,0 +1,96 @@
+-- `reading::of_bytes` meets its contract: the tree that was decoded gives the order, and the room decides between 10 and acceptance.
+use borrow.Author.Tests.{not-true, not-false}
+use native.Mathlib.Omega.{arith}
+use Rattle.poset.specs.Order.{Strict}
+use Rattle.relation.specs.Table.{holds, Inside}
+use Rattle.relation.proofs.Chain.{reduced_inside}
+use Rattle.reader.proofs.Whole.{slice_below}
+use Rattle.analysis.proofs.Crossing.{gives_told}
+use Rattle.analysis.proofs.Taking.{count_few}
+use Rattle.analysis.proofs.Decoded.{Decoded, decoded, gives_11, ready, after_inside, after_strict, back_10, back_0}
+use Rattle.analysis.proofs.reading.of_bytes.Goals.{Else-not-read, After-order_of-after}
+use Rattle.analysis.proofs.reading.of_bytes.Goals as goal
+
+-- the tree of the bytes, where they are a record
+read_tree_lem : (c : goal.Else-not-read) → Decoded c.args.bytes.now c.read_record-read.result
+read_tree_lem c =
+    decoded _ _ (slice_below _ c.type_inv.bytes) c.read_record-read.ensures (not-false _ c.if-not-read.false)
+
+-- the order of the two sequences
+module _ (c : goal.After-order_of-after) (d : Decoded c.args.bytes.now c.read_record-read.result) where
+  order_inside : Inside c.read_record-read.result.count c.order_of-after.result
+  order_inside = after_inside _ _ d c.order_of-after.result c.order_of-after.ensures
+
+  order_strict : Strict c.read_record-read.result.count (holds c.order_of-after.result)
+  order_strict = after_strict _ _ d c.order_of-after.result c.order_of-after.ensures
+
+pub returns-then-not-read : goal.returns-then-not-read
+returns-then-not-read c =
+    let s = c in
+    let b = s.args.bytes.now in
+    let ar = s.args.area.now in
+    let r = c.read_record-read in
+    gives_told c.refused.ensures
+    (gives_11 b r.result ar r.ensures (not-true _ c.if-not-read.true))
+
+pub order_of-after-requires : goal.order_of-after-requires
+order_of-after-requires c =
+    let e = ready _ _ (read_tree_lem (goal.at.order_of-after-requires c).Else-not-read) in
+    record { n_bound = e.0; all_below = e.1 }
+
+pub reduced-reduced-requires : goal.reduced-reduced-requires
+reduced-reduced-requires c = record {
+  n_bound = (read_tree_lem (goal.at.reduced-reduced-requires c).Else-not-read).spells.most;
+  strict = order_strict (goal.at.reduced-reduced-requires c).After-order_of-after (read_tree_lem (goal.at.reduced-reduced-requires c).Else-not-read);
+  inside = order_inside (goal.at.reduced-reduced-requires c).After-order_of-after (read_tree_lem (goal.at.reduced-reduced-requires c).Else-not-read);
+}
+
+pub pair_count-count-requires : goal.pair_count-count-requires
+pair_count-count-requires c =
+    let o = c in record {
+      n_bound = (read_tree_lem (goal.at.pair_count-count-requires c).Else-not-read).spells.most;
+      inside = reduced_inside _ _ c.reduced-reduced.result (order_inside (goal.at.pair_count-count-requires c).After-order_of-after (read_tree_lem (goal.at.pair_count-count-requires c).Else-not-read)) c.reduced-reduced.ensures;
+    }
+
+pub overflow_mul-count : goal.overflow_mul-count
+overflow_mul-count c =
+    let red = c.reduced-reduced in
+    let o = c in
+    record {
+      fits = omega (
+        arith,
+        count_few _ _ red.result c.pair_count-count.result (read_tree_lem (goal.at.overflow_mul-count c).Else-not-read).spells.most (order_strict (goal.at.overflow_mul-count c).After-order_of-after (read_tree_lem (goal.at.overflow_mul-count c).Else-not-read)) red.ensures c.pair_count-count.ensures,
+      );
+    }
+
+pub returns-then-area-count : goal.returns-then-area-count
+returns-then-area-count c =
+    let m = c in
+    let o = m in
+    let s = c in
+    let b = s.args.bytes.now in
+    let ar = s.args.area.now in
+    let red = m.reduced-reduced in
+    gives_told c.refused-then-area-count.ensures
+    (back_10 b _ (read_tree_lem (goal.at.returns-then-area-count c).Else-not-read) o.order_of-after.result o.order_of-after.ensures red.result red.ensures m.pair_count-count.result m.pair_count-count.ensures
+    ar c.if-area-count.true)
+
+pub write_pairs-requires : goal.write_pairs-requires
+write_pairs-requires c =
+    let m = c in
+    let o = m in
+    let red = m.reduced-reduced in record {
+      n_bound = (read_tree_lem (goal.at.write_pairs-requires c).Else-not-read).spells.most;
+      inside = reduced_inside _ _ red.result (order_inside (goal.at.write_pairs-requires c).After-order_of-after (read_tree_lem (goal.at.write_pairs-requires c).Else-not-read)) red.ensures;
+      t_in_bounds = omega (arith, m.pair_count-count.ensures, c.if-area-count.false);
+    }
+
+pub returns : goal.returns
+returns c =
+    let w = c in
+    let m = w in
+    let o = m in
+    let s = c in
+    let red = m.reduced-reduced in
+    back_0 s.args.bytes.now _ (read_tree_lem (goal.at.returns c).Else-not-read) o.order_of-after.result o.order_of-after.ensures red.result red.ensures
+    m.pair_count-count.result m.pair_count-count.ensures s.args.area.now w.if-area-count.false _ w.write_pairs.ensures
