@@ -1,0 +1,21 @@
+-- `ends::first_loop` meets its contract.
+use mathlib.Core.Path.{sym, ◌∙◌}
+use native.Mathlib.Omega.{arith}
+use Rattle.relation.specs.Arcs.{pairs, loop}
+use Rattle.analysis.proofs.Steps.{pairs_length}
+use Rattle.preview.proofs.Joining.{place_below, places_append}
+use Rattle.preview.proofs.ends.first_loop.Goals as goal
+
+pub first_of-requires : goal.first_of-requires
+first_of-requires c =
+    let s = c in
+    let last = s.args.last.now in (
+      omega (arith, s.well_formed),
+      λ k e. omega (arith, s.well_formed, pairs_length last, place_below loop (pairs last) (sym c.first_loop-2.ensures ∙ e)),
+    )
+
+pub returns : goal.returns
+returns c =
+    let q = c in
+    let s = q in
+    places_append loop s.args.list.now s.args.last.now q.first_loop.ensures q.first_loop-2.ensures c.first_of.ensures

@@ -1,0 +1,20 @@
+-- `limits::of_lists` meets its contract: 5, or what arcs give that name jobs alone.
+use mathlib.Core.Path.{sym, ap, ◌∙◌}
+use Rattle.relation.specs.Arcs.{found}
+use Rattle.analysis.proofs.Steps.{listed_5}
+use Rattle.preview.proofs.Answering.{told_refused}
+use Rattle.preview.proofs.limits.of_lists.Goals as goal
+
+pub of_named-requires : goal.of_named-requires
+of_named-requires c =
+    let test = c in
+    let s = test in record {
+      n_nonzero = s.requires.n_nonzero;
+      hours_len = s.requires.hours_len;
+      last_value = sym test.first_outside-far.ensures ∙ ap found c.in-Nothing.is;
+    }
+
+pub returns-in-At : goal.returns-in-At
+returns-in-At c =
+    let test = c in
+    told_refused (listed_5 _ _ _ _ _ (sym test.first_outside-far.ensures ∙ ap found c.in-At.is))

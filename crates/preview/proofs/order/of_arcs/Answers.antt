@@ -1,0 +1,52 @@
+-- `order::of_arcs` meets its contract: the closure's first job before itself decides between 7 and the rest.
+use mathlib.Core.Path.{◌≡◌, sym, ap, ◌∙◌}
+use mathlib.Core.List.{◌++◌}
+use mathlib.Core.Option.{none}
+use native.Mathlib.Omega.{arith}
+use Rattle.poset.specs.Order.{first_on_cycle_of}
+use Rattle.relation.specs.Table.{holds}
+use Rattle.relation.specs.Arcs.{pairs, found}
+use Rattle.relation.proofs.Chain.{table_inside}
+use Rattle.analysis.proofs.Circles.{circle_outcome, order_outcome, order_asks}
+use Rattle.preview.proofs.Answering.{same_answer, told_refused}
+use Rattle.preview.proofs.order.of_arcs.Goals as goal
+use Rattle.preview.proofs.order.of_arcs.Goals.{In-Nothing}
+
+-- no job is before itself in the closure
+none_here : (c : goal.In-Nothing) → first_on_cycle_of c.args.n (holds c.transitive_closure-after.result) ≡ none
+none_here c = sym c.first_on_cycle-circle.ensures ∙ ap found c.in-Nothing.is
+
+pub table_of-requires : goal.table_of-requires
+table_of-requires c =
+    let s = c.requires in
+    λ a m. (omega (arith, (s.within a m).0, s.n_nonzero.1), omega (arith, (s.within a m).1, s.n_nonzero.1))
+
+pub transitive_closure-after-requires : goal.transitive_closure-after-requires
+transitive_closure-after-requires c =
+    let a = c.args in
+    record {
+      n_bound = c.requires.n_nonzero.1;
+      inside = table_inside a.n (pairs a.list.now ++ pairs a.last.now) c.table_of.result c.table_of.ensures c.requires.within;
+    }
+
+pub of_order-requires : goal.of_order-requires
+of_order-requires c =
+    let a = c.args in
+    let s = c.requires in
+    let asked = order_asks a.n (pairs a.list.now ++ pairs a.last.now) _ _ c.table_of.ensures c.transitive_closure-after.ensures.by_index s.within
+    (none_here (goal.at.of_order-requires c).In-Nothing) in
+    record { n_nonzero = s.n_nonzero; strict = asked.0; inside = asked.1; hours_len = s.hours_len }
+
+pub returns-in-At : goal.returns-in-At
+returns-in-At c =
+    let a = c.args in
+    told_refused
+    (circle_outcome a.n (pairs a.list.now ++ pairs a.last.now) _ _ c.table_of.ensures c.transitive_closure-after.ensures.by_index _ _
+    (sym c.first_on_cycle-circle.ensures ∙ ap found c.in-At.is))
+
+pub returns-in-Nothing : goal.returns-in-Nothing
+returns-in-Nothing c =
+    let a = c.args in
+    c.of_order.ensures
+    ∙ same_answer (order_outcome a.n (pairs a.list.now ++ pairs a.last.now) _ _ c.table_of.ensures
+    c.transitive_closure-after.ensures.by_index _ _ (none_here (goal.at.returns-in-Nothing c).In-Nothing))
