@@ -1,0 +1,66 @@
+-- `stack::taken` meets its contract: a law for a leaf, and one for a group of either kind.
+use Prim.Native.Nat.{◌+◌, ◌%◌, ◌<◌}
+use mathlib.Core.List.{List}
+use native.Mathlib.Omega.{arith}
+use Rattle.poset.specs.Tree.{Kind, series, parallel, Tree}
+use Rattle.record.specs.Layout.{hours_of}
+use Rattle.reader.specs.Nodes.{Step, Fits}
+use Rattle.longest.specs.Stack.{Runs, runs, Stacked}
+use Rattle.record.proofs.Entries.{hours_most}
+use Rattle.longest.proofs.Stacking.{taken_leaf, IsGroup, Opened, taken_group}
+use Rattle.longest.proofs.stack.taken.Goals.{Start}
+use Rattle.longest.proofs.stack.taken.Goals as goal
+
+abbrev lent : Start → Runs
+lent s = let a = s.args in runs a.totals.now a.firsts.now a.lasts.now a.next.now
+
+leaf-of : (s : Start) → s.args.token < 256 → (s.args.token < 128) × (0 < s.args.top)
+leaf-of s low =
+    let a = s.args in
+    let (ts, us, step, fits, stacked) = s.requires.1 in
+    let leaf = taken_leaf (hours_of a.hours.now) (hours_most a.hours.now s.requires.0) a.top (lent s) a.token low ts us step fits stacked in
+    (leaf.0, leaf.1)
+
+opened-at : (k : Kind) (s : Start) → IsGroup k s.args.token → (ts us : List Tree) → Step s.args.token ts us → Fits us
+    → Stacked (hours_of s.args.hours.now) ts s.args.top (lent s)
+    → Opened (hours_of s.args.hours.now) (hours_most s.args.hours.now s.requires.0) s.args.top (lent s) k (s.args.top + s.args.token % 128) us
+opened-at k s g = taken_group _ _ _ _ k s.args.token g
+
+pub overflow_sub-at : goal.overflow_sub-at
+overflow_sub-at c = (leaf-of (goal.at.overflow_sub-at c).Start c.if-token-lt256.true).1
+
+pub bounds-hours-token : goal.bounds-hours-token
+bounds-hours-token c = omega (arith, (leaf-of (goal.at.bounds-hours-token c).Start c.if-token-lt256.true).0)
+
+pub returns-then-token-lt256 : goal.returns-then-token-lt256
+returns-then-token-lt256 c =
+    let s = (goal.at.returns-then-token-lt256 c).Start in
+    let a = s.args in λ ts us step fits stacked.
+    rw c.total_of.ensures
+    (taken_leaf (hours_of a.hours.now) (hours_most a.hours.now s.requires.0) a.top (lent s) a.token c.if-token-lt256.true ts us step fits stacked).2
+
+pub chain-requires : goal.chain-requires
+chain-requires c =
+    let s = (goal.at.chain-requires c).Start in
+    let (ts, us, step, fits, stacked) = s.requires.1 in
+    let o = opened-at series s (c.if-token-lt256.false, c.if-token-lt384.true) ts us step fits stacked in
+    (o.children, o.beside)
+
+pub returns-then-token-lt384 : goal.returns-then-token-lt384
+returns-then-token-lt384 c =
+    let s = (goal.at.returns-then-token-lt384 c).Start in λ ts us step fits stacked.
+    let o = opened-at series s (c.if-token-lt256.false, c.if-token-lt384.true) ts us step fits stacked in
+    o.closed _ (c.chain.ensures o.children o.beside)
+
+pub side-requires : goal.side-requires
+side-requires c =
+    let s = (goal.at.side-requires c).Start in
+    let (ts, us, step, fits, stacked) = s.requires.1 in
+    let o = opened-at parallel s c.if-token-lt384.false ts us step fits stacked in
+    (s.args.next.now, o.children, o.beside)
+
+pub returns : goal.returns
+returns c =
+    let s = (goal.at.returns c).Start in λ ts us step fits stacked.
+    let o = opened-at parallel s c.if-token-lt384.false ts us step fits stacked in
+    o.closed _ (c.side.ensures s.args.next.now o.children o.beside)
