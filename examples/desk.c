@@ -1,7 +1,7 @@
 /* desk FILE [FIRST SECOND]: what the sheet in FILE gives, in words. The reason is that between the jobs FIRST and
  * SECOND, or where none are named between job 0 and the last job.
  *
- *     rt staticlib desk
+ *     tools/build desk
  *     cc -std=c11 -Wall -Wextra -O2 -Iinclude examples/desk.c target/staticlib/libdesk.a -o desk
  *
  * Exit status: 0 accepted, 1 refused, 2 a wrong usage or a file that cannot be read, 3 the record reads back

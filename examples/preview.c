@@ -1,7 +1,7 @@
 /* preview FILE FIRST SECOND: what the jobs, hours and orders of the sheet in FILE would give with one more order as the
  * last, job FIRST before job SECOND. Nothing is written down.
  *
- *     rt staticlib desk
+ *     tools/build desk
  *     cc -std=c11 -Wall -Wextra -O2 -Iinclude examples/preview.c target/staticlib/libdesk.a -o preview
  *
  * Exit status: 0 it would be accepted, 1 it would be refused, 2 a wrong usage or a file that cannot be read. */

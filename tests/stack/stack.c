@@ -1,6 +1,6 @@
 /* How much stack the desk's calls take: each runs on a stack of its own that was filled with a pattern before.
  *
- *     rt staticlib desk
+ *     tools/build desk
  *     cc -std=c11 -Wall -Wextra -O2 -Iinclude tests/stack/stack.c target/staticlib/libdesk.a -o target/stack && target/stack
  *
  * Exit status 1: an answer is wrong, or a call took more than ORDERSHEET_STACK. */

@@ -1,4 +1,4 @@
-//! The planning desk's calls, for C: an answer is one number. An analysis hands back no sequences and no hours.
+//! The planning desk's calls, for C (crate `desk_c` exports them): an answer is one number. An analysis hands back no sequences and no hours.
 
 #![tactic(auto)]
 
@@ -15,8 +15,7 @@ ghost use Rattle.desk.specs.Packed.{packed};
 ghost use Rattle.desk.specs.Told.{Told, RunTold, GangsTold, ReasonTold};
 
 // The analysis of a sheet: the record and the reduced orders into the two areas.
-#[unsafe(no_mangle)]
-pub extern "C" fn ordersheet_analyse(sheet: &[u8], bytes: &mut [u8], area: &mut [u8]) -> u64
+pub fn ordersheet_analyse(sheet: &[u8], bytes: &mut [u8], area: &mut [u8]) -> u64
     ensures { Told (sheet_outcome (rooms bytes.old area.old) sheet.now)
         bytes.old area.old result bytes.new area.new }
 {
@@ -26,8 +25,7 @@ pub extern "C" fn ordersheet_analyse(sheet: &[u8], bytes: &mut [u8], area: &mut 
 }
 
 // The reading of a record: the reduced orders into the area.
-#[unsafe(no_mangle)]
-pub extern "C" fn ordersheet_read(bytes: &[u8], area: &mut [u8]) -> u64
+pub fn ordersheet_read(bytes: &[u8], area: &mut [u8]) -> u64
     ensures { Told (record_outcome (length area.old) bytes.now)
         [] area.old result [] area.new }
 {
@@ -47,8 +45,7 @@ pub struct Run {
 }
 
 // The longest run of work of a record.
-#[unsafe(no_mangle)]
-pub extern "C" fn ordersheet_longest_run(bytes: &[u8]) -> Run
+pub fn ordersheet_longest_run(bytes: &[u8]) -> Run
     ensures { RunTold (run_outcome bytes.now) result }
 {
     let found = longest::longest_run(bytes);
@@ -73,8 +70,7 @@ pub struct Plan {
 }
 
 // The fewest gangs of a record.
-#[unsafe(no_mangle)]
-pub extern "C" fn ordersheet_gangs(bytes: &[u8]) -> Plan
+pub fn ordersheet_gangs(bytes: &[u8]) -> Plan
     ensures { GangsTold (gang_outcome bytes.now) result }
 {
     let plan = gangs::fewest_gangs(bytes);
@@ -100,8 +96,7 @@ pub struct Reason {
 }
 
 // The reason between two jobs of a record.
-#[unsafe(no_mangle)]
-pub extern "C" fn ordersheet_reason(bytes: &[u8], first: u16, second: u16) -> Reason
+pub fn ordersheet_reason(bytes: &[u8], first: u16, second: u16) -> Reason
     ensures { ReasonTold (reason_outcome bytes.now first second) result }
 {
     let found = reason::reason_between(bytes, first, second);
@@ -115,14 +110,7 @@ pub extern "C" fn ordersheet_reason(bytes: &[u8], first: u16, second: u16) -> Re
 }
 
 // The answer on a pair list with one more order at its end: two numbers for each order, and the hours of each job.
-#[unsafe(no_mangle)]
-pub extern "C" fn ordersheet_preview(
-    count: u16,
-    list: &[u16],
-    hours: &[u16],
-    first: u16,
-    second: u16,
-) -> u64
+pub fn ordersheet_preview(count: u16, list: &[u16], hours: &[u16], first: u16, second: u16) -> u64
     ensures { result ≡ packed (previewed count hours.now list.now first second) }
 {
     let verdict = preview::preview_order(count, list, hours, first, second);

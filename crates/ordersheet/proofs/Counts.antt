@@ -1,29 +1,13 @@
--- How many bytes there are to read into, and after a read.
-use Prim.Native.Nat.{ℕ, zero, suc, ◌+◌, ◌-◌, ◌≤◌, ◌<◌}
-use mathlib.Core.Path.{◌≡◌, refl, ap}
-use mathlib.Core.List.{List}
-use native.Mathlib.Omega.{arith}
-use native.Mathlib.Nat.{min-le_right}
-use lib.IntN.{ℤ, pos, negsuc}
-use lib.ListN.{length, take, drop, length-drop}
-use lib.Seq.{length-take-le}
-use lib.Signed.{le_z}
-use borrow.Author.Tests.{le-leb}
-use Rattle.io.specs.Counts.{clamp_len}
-use Rattle.ordersheet.specs.Reading.{buffer_size, succeeded, Read, Reads, first, next}
+-- How many bytes there are after a read, and how many reads may still come.
+use Rattle.std.proofs.Common.{◌≡◌, ℕ, zero, suc, ◌+◌, ◌-◌, ◌≤◌, ◌<◌, ap, List, Result, Ok, Err, arith}
+use Rattle.std.proofs.Math.Nat.{min-le_right}
+use Rattle.std.specs.declared.io.Error.{Error}
+use Rattle.ordersheet.specs.Reading.{buffer_size, clamp_len, Read, Reads, first, next}
 use Rattle.ordersheet.specs.declared.Taken.{Taken}
 
--- the part of a buffer after its first bytes
-pub part_long : (done : ℕ) (buf : List ℕ) → length (take (length buf - done) (drop done buf)) ≡ length buf - done
-part_long done buf = length-take-le (length buf - done) (drop done buf) (omega (arith, length-drop done buf))
-
-pub succeeded_is : (z : ℤ) → le_z (pos 0) z ≡ succeeded z
-succeeded_is (pos k) = le-leb 0 k (omega arith)
-succeeded_is (negsuc k) = refl
-
-clamped_few : (z : ℤ) (most : ℕ) → clamp_len z most ≤ most
-clamped_few (pos k) most = min-le_right k most
-clamped_few (negsuc k) most = omega arith
+clamped_few : (answer : Result ℕ Error) (most : ℕ) → clamp_len answer most ≤ most
+clamped_few (Ok k) most = min-le_right k most
+clamped_few (Err e) most = omega arith
 
 -- how many reads may still come where there is room for so many bytes: after one that gave nothing the loop ends
 abbrev pub reads_left : ℕ → ℕ → ℕ

@@ -1,7 +1,6 @@
 -- What is told of a read and of the reading of the input, and what is printed then.
-use Rattle.std.specs.Prelude.{ℕ, suc, ◌+◌, ◌-◌, ◌≤◌, ◌<◌, ◌≡◌, Bool, true, false, List, [], ◌⊎◌, ℤ, pos, negsuc, take}
-use Rattle.libc.specs.Io.{Moved}
-use Rattle.io.specs.Counts.{clamp_len}
+use Rattle.std.specs.Prelude.{ℕ, suc, ◌+◌, ◌-◌, ◌≤◌, ◌<◌, ◌≡◌, min, Option, Some, None, Result, Ok, Err, IfOk, List, [], ◌⊎◌, take}
+use Rattle.std.specs.declared.io.Error.{Error}
 use Rattle.analysis.specs.Bounds.{longest_sheet}
 use Rattle.analysis.specs.Outcome.{roomy, sheet_outcome}
 use Rattle.printer.specs.Text.{printed}
@@ -11,18 +10,27 @@ use Rattle.ordersheet.specs.declared.Taken.{Taken}
 abbrev pub buffer_size : ℕ
 buffer_size = suc longest_sheet
 
--- a read has failed where its answer is below 0
-abbrev pub succeeded : ℤ → Bool
-succeeded (pos k) = true
-succeeded (negsuc k) = false
+-- what a read that is handed so many bytes may answer: an error, or how many bytes it read, no more than these
+abbrev pub Moved : ℕ → Result ℕ Error → Type 0
+Moved room answer = IfOk answer (λ k. k ≤ room)
+
+-- the bytes that an answer counts, at most so many: none where the read failed
+abbrev pub clamp_len : Result ℕ Error → ℕ → ℕ
+clamp_len (Ok k) most = min k most
+clamp_len (Err e) most = 0
+
+-- a read has failed where its answer is an error
+abbrev pub failure : Result ℕ Error → Option Error
+failure (Ok k) = None
+failure (Err e) = Some e
 
 -- what is told of a read, by its answer, that had room for so many bytes after the first `done`
-abbrev pub told : ℤ → ℕ → ℕ → Taken
-told answer done room = let got = clamp_len answer room in record { ok = succeeded answer; got = got; len = done + got }
+abbrev pub told : Result ℕ Error → ℕ → ℕ → Taken
+told answer done room = let got = clamp_len answer room in record { failed = failure answer; got = got; len = done + got }
 
 -- r is told of a read into the buffer after its first `done` bytes
 pub record Read (done : ℕ) (r : Taken) : Type 0 where
-  pub answer : ℤ
+  pub answer : Result ℕ Error
   pub moved : Moved (buffer_size - done) answer
   pub is_told : r ≡ told answer done (buffer_size - done)
 
@@ -44,4 +52,4 @@ pub record InputRead (buf buf' : List ℕ) (r : Taken) : Type 0 where
 
 -- the text to print for what was read: none where a read failed
 abbrev pub answered : Taken → List ℕ → List ℕ
-answered r buf = elim r.ok [ true ↦ printed (sheet_outcome roomy (take r.len buf)) | false ↦ [] ]
+answered r buf = elim r.failed [ None ↦ printed (sheet_outcome roomy (take r.len buf)) | Some e ↦ [] ]

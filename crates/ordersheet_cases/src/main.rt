@@ -2,57 +2,60 @@
 
 #![tactic(auto)]
 
-use libc::STDOUT_FILENO;
-use printer::outcome;
+ghost use Rattle.std.specs.Prelude.{◌≤◌, IfOk, length};
 
-fn print_sheet(sheet: &[u8]) {
+use printer::outcome;
+use std::env::{Env, FillError};
+use std::fs::File;
+use std::io::{Read, Write};
+use std::{io, str};
+
+fn print_sheet(rt: &impl Print, sheet: &[u8]) -> io::Result<()> {
     let mut text = [0u8; 40000];
     let end = outcome::sheet_text(sheet, &mut text);
-    io::write_all(STDOUT_FILENO, &text[..end]);
+    rt.write_all(&text[..end])
 }
 
-fn number(n: u64) {
-    io::write_all(STDOUT_FILENO, b" ");
-    io::print_decimal(STDOUT_FILENO, n);
+fn number(rt: &impl Print, n: u64) -> io::Result<()> {
+    print!(rt; " {n}")
 }
 
-fn size(n: usize) {
-    number(n as u64);
+fn size(rt: &impl Print, n: usize) -> io::Result<()> {
+    number(rt, n as u64)
 }
 
-fn entry(b: u8) {
-    number(b as u64);
+fn entry(rt: &impl Print, b: u8) -> io::Result<()> {
+    number(rt, b as u64)
 }
 
 // The entry at a place, if there is one.
-fn entry_at(list: &[u8], i: usize) {
+fn entry_at(rt: &impl Print, list: &[u8], i: usize) -> io::Result<()> {
     if i < list.len() {
-        entry(list[i]);
+        entry(rt, list[i])?;
     }
+    Ok(())
 }
 
 // A line of a word and the first entries of a list.
-fn entries(word: &[u8], list: &[u8], count: usize) {
-    io::write_all(STDOUT_FILENO, word);
-    let mut i = 0;
-    while i < count {
-        entry_at(list, i);
-        i += 1;
+fn entries(rt: &impl Print, word: &[u8], list: &[u8], count: usize) -> io::Result<()> {
+    rt.write_all(word)?;
+    for i in 0..count {
+        entry_at(rt, list, i)?;
     }
-    io::write_all(STDOUT_FILENO, b"\n");
+    rt.write_all(b"\n")
 }
 
-fn hours_entry(h: u16) {
-    number(h as u64);
+fn hours_entry(rt: &impl Print, h: u16) -> io::Result<()> {
+    number(rt, h as u64)
 }
 
 // A line of the hours of each job.
-fn hours_entries(hours: &[u16; 128]) {
-    io::write_all(STDOUT_FILENO, b"hours");
+fn hours_entries(rt: &impl Print, hours: &[u16; 128]) -> io::Result<()> {
+    rt.write_all(b"hours")?;
     for i in 0..128 {
-        hours_entry(hours[i]);
+        hours_entry(rt, hours[i])?;
     }
-    io::write_all(STDOUT_FILENO, b"\n");
+    rt.write_all(b"\n")
 }
 
 // The bytes of so many arcs; more than an area holds are not printed.
@@ -63,18 +66,18 @@ fn arc_bytes(arcs: usize) -> usize {
     2 * arcs
 }
 
-fn answer(told: [usize; 5]) {
-    io::write_all(STDOUT_FILENO, b"answer");
-    size(told[0]);
-    size(told[1]);
-    size(told[2]);
-    size(told[3]);
-    size(told[4]);
-    io::write_all(STDOUT_FILENO, b"\n");
+fn answer(rt: &impl Print, told: [usize; 5]) -> io::Result<()> {
+    rt.write_all(b"answer")?;
+    size(rt, told[0])?;
+    size(rt, told[1])?;
+    size(rt, told[2])?;
+    size(rt, told[3])?;
+    size(rt, told[4])?;
+    rt.write_all(b"\n")
 }
 
 // What a record gives: the answer's number and places, the reduced orders as they are written, both sequences and the hours whole.
-fn print_record(record: &[u8]) {
+fn print_record(rt: &impl Print, record: &[u8]) -> io::Result<()> {
     let mut area = [0u8; 8192];
     let read = analysis::analyse_record(record, &mut area);
     let forward = read.forward;
@@ -83,11 +86,11 @@ fn print_record(record: &[u8]) {
     let verdict = read.verdict;
     let told = analysis::answer::numbers(verdict);
     let arcs = arc_bytes(told[2]);
-    answer(told);
-    entries(b"arcs", &area, arcs);
-    entries(b"forward", &forward, 128);
-    entries(b"reverse", &reverse, 128);
-    hours_entries(&hours);
+    answer(rt, told)?;
+    entries(rt, b"arcs", &area, arcs)?;
+    entries(rt, b"forward", &forward, 128)?;
+    entries(rt, b"reverse", &reverse, 128)?;
+    hours_entries(rt, &hours)
 }
 
 // A record's name begins with r.
@@ -98,37 +101,80 @@ fn names_record(path: &[u8]) -> bool {
     path[0] == b'r'
 }
 
-fn print_case(path: &[u8], bytes: &[u8]) {
-    io::write_all(STDOUT_FILENO, path);
-    io::write_all(STDOUT_FILENO, b"\n");
+fn print_case(rt: &impl Print, path: &[u8], bytes: &[u8]) -> io::Result<()> {
+    rt.write_all(path)?;
+    rt.write_all(b"\n")?;
     if names_record(path) {
-        print_record(bytes);
+        print_record(rt, bytes)
     } else {
-        print_sheet(bytes);
+        print_sheet(rt, bytes)
     }
 }
 
-fn file_case(path: &[u8]) {
-    let fd = os::open_read(path);
-    if fd < 0 {
-        os::fail(path);
-        return;
+// Opens a file to read it. Its name is UTF-8.
+fn open(rt: &HostRuntime, path: &[u8]) -> io::Result<File> {
+    match str::from_utf8(path) {
+        Ok(name) => File::open(rt, name),
+        Err(_) => Err(io::Error::from(io::ErrorKind::InvalidFilename)),
     }
-    let mut bytes = io::large_buffer();
-    let count = io::read_full(fd, &mut bytes);
-    libc::close(fd);
-    print_case(path, &bytes[..count]);
 }
 
-fn arg_case(i: usize) {
+// Reads until the file ends or the buffer is full: how many bytes it holds then.
+fn read_full(file: &mut File, buf: &mut [u8]) -> io::Result<usize>
+    ensures { IfOk result (λ n. n ≤ length buf.new) }
+{
+    let mut done = 0;
+    while done < buf.len() {
+        let got = file.read(&mut buf[done..])?;
+        if got == 0 {
+            break;
+        }
+        done += got;
+    }
+    Ok(done)
+}
+
+// A line on standard error: the file, and the error's text, without the number that std adds.
+fn tell(rt: &HostRuntime, path: &[u8], error: io::Error) -> io::Result<()> {
+    let mut text = [0u8; 256];
+    let mut rest = &mut text[..];
+    write!(rest, "{error}")?;
+    let whole = str::from_utf8(&text).unwrap_or("");
+    let why = match whole.split_once(" (os error ") {
+        Some((why, _)) => why,
+        None => whole.trim_end_matches('\0'),
+    };
+    Print::write_all(&rt.stderr(), path)?;
+    eprintln!(rt; ": {why}")
+}
+
+fn file_case(rt: &HostRuntime, path: &[u8]) -> io::Result<()> {
+    let mut file = match open(rt, path) {
+        Ok(file) => file,
+        Err(error) => return tell(rt, path, error),
+    };
+    let mut bytes = [0u8; 65536];
+    let count = read_full(&mut file, &mut bytes)?;
+    print_case(rt, path, &bytes[..count])
+}
+
+// Whether there is such an argument. One that is too long for a path is taken as empty.
+fn arg_case(rt: &HostRuntime, i: usize) -> io::Result<bool> {
     let mut path = [0u8; 64];
-    let count = os::arg(i, &mut path);
-    file_case(&path[..count]);
+    let count = match rt.arg(i, &mut path) {
+        Ok(count) => count,
+        Err(FillError::TooLong) => 0,
+        Err(FillError::NotPresent) => return Ok(false),
+    };
+    file_case(rt, &path[..count])?;
+    Ok(true)
 }
 
-fn main() {
-    let count = os::arg_count();
-    for i in 1..count {
-        arg_case(i);
+fn main(rt: HostRuntime) -> io::Result<()> {
+    for i in 1..usize::MAX {
+        if !arg_case(&rt, i)? {
+            break;
+        }
     }
+    Ok(())
 }

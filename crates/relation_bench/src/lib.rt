@@ -1,4 +1,4 @@
-//! The steps of crates `closure` and `relation`, called from C by bench/closure, bench/relation and tests/compare. Arcs that do not fit are refused.
+//! The steps of crates `closure` and `relation`, which bench/closure, bench/relation and tests/compare call from C (crate `relation_bench_c`). Arcs that do not fit are refused.
 
 #![tactic(auto)]
 
@@ -47,8 +47,7 @@ pub fn acyclic(after: [[u64; 2]; 128], n: usize) -> bool
 }
 
 // The closure, made once and as many times again, and how many joins it takes; 0 where the arcs do not fit.
-#[unsafe(no_mangle)]
-pub extern "C" fn bench_joins(arcs: &[u16], n: u16, again: u16) -> usize
+pub fn bench_joins(arcs: &[u16], n: u16, again: u16) -> usize
     ensures { result ≡ joins_of n (pairs arcs.now) }
 {
     if !fits(arcs, n) {
@@ -64,8 +63,7 @@ pub extern "C" fn bench_joins(arcs: &[u16], n: u16, again: u16) -> usize
 }
 
 // The same by Warshall's passes, cycle or not.
-#[unsafe(no_mangle)]
-pub extern "C" fn bench_passes(arcs: &[u16], n: u16, again: u16) -> usize
+pub fn bench_passes(arcs: &[u16], n: u16, again: u16) -> usize
     ensures { result ≡ pass_joins_of n (pairs arcs.now) }
 {
     if !fits(arcs, n) {
@@ -81,8 +79,7 @@ pub extern "C" fn bench_passes(arcs: &[u16], n: u16, again: u16) -> usize
 }
 
 // Closure and reduction: the reduced arcs as bytes in the area, and how many there are.
-#[unsafe(no_mangle)]
-pub extern "C" fn bench_reduce(arcs: &[u16], n: u16, area: &mut [u8]) -> usize
+pub fn bench_reduce(arcs: &[u16], n: u16, area: &mut [u8]) -> usize
     ensures value { result ≡ length (reduced_arcs (length area.old) n (pairs arcs.now)) }
     ensures area_after { area.new
         ≡ overlay (arc_bytes (reduced_arcs (length area.old) n (pairs arcs.now))) area.old }
@@ -121,8 +118,7 @@ fn searched(after: [[u64; 2]; 128], n: usize) -> u64
 }
 
 // The first N of arcs.
-#[unsafe(no_mangle)]
-pub extern "C" fn bench_first_n(arcs: &[u16], n: u16) -> u64
+pub fn bench_first_n(arcs: &[u16], n: u16) -> u64
     ensures { result ≡ packed_n n (pairs arcs.now) }
 {
     if !fits(arcs, n) {

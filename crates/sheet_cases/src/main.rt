@@ -3,37 +3,36 @@
 
 #![tactic(auto)]
 
-ghost use Rattle.std.specs.Prelude.{◌≤◌, length};
+ghost use Rattle.std.specs.Prelude.{◌≤◌, IfOk, length};
 
-use libc::{STDIN_FILENO, STDOUT_FILENO};
 use sheet::SheetRead;
+use std::io;
+use std::io::{Read, Stdin};
 
-fn number(n: u64) {
-    io::write_all(STDOUT_FILENO, b" ");
-    io::print_decimal(STDOUT_FILENO, n);
+fn number(rt: &impl Print, n: u64) -> io::Result<()> {
+    print!(rt; " {n}")
 }
 
 // Prints the count and how many arcs there are, or the place of the fault.
-fn result(read: SheetRead) {
+fn result(rt: &impl Print, read: SheetRead) -> io::Result<()> {
     match read {
         SheetRead::Sheet(count, arcs) => {
-            io::write_all(STDOUT_FILENO, b": sheet");
-            number(count as u64);
-            number(arcs as u64);
+            rt.write_all(b": sheet")?;
+            number(rt, count as u64)?;
+            number(rt, arcs as u64)
         }
         SheetRead::Broken(place) => {
-            io::write_all(STDOUT_FILENO, b": broken");
-            number(place as u64);
+            rt.write_all(b": broken")?;
+            number(rt, place as u64)
         }
     }
 }
 
-fn numbers(list: &[u16]) {
-    let mut i = 0;
-    while i < list.len() {
-        number(list[i] as u64);
-        i += 1;
+fn numbers(rt: &impl Print, list: &[u16]) -> io::Result<()> {
+    for n in list {
+        number(rt, *n as u64)?;
     }
+    Ok(())
 }
 
 // No hours: they have at most four digits.
@@ -54,24 +53,24 @@ fn filled(list: &[u16]) -> usize
 }
 
 // Prints the hours up to the last that was written.
-fn hours_read(hours: &[u16]) {
+fn hours_read(rt: &impl Print, hours: &[u16]) -> io::Result<()> {
     let n = filled(hours);
-    numbers(&hours[0..n]);
+    numbers(rt, &hours[0..n])
 }
 
 // Reads a sheet into lists with room for the hours of 128 jobs, and for two arcs and one number more. Prints the result,
 // the hours that were read, and the whole list of arcs.
-fn case(name: &[u8], s: &[u8]) {
+fn case(rt: &impl Print, name: &[u8], s: &[u8]) -> io::Result<()> {
     let mut hours = [BARE; 128];
     let mut list = [9u16; 5];
     let read = sheet::read_sheet(s, &mut hours, &mut list);
-    io::write_all(STDOUT_FILENO, name);
-    result(read);
-    io::write_all(STDOUT_FILENO, b" |");
-    hours_read(&hours);
-    io::write_all(STDOUT_FILENO, b" |");
-    numbers(&list);
-    io::write_all(STDOUT_FILENO, b"\n");
+    rt.write_all(name)?;
+    result(rt, read)?;
+    rt.write_all(b" |")?;
+    hours_read(rt, &hours)?;
+    rt.write_all(b" |")?;
+    numbers(rt, &list)?;
+    rt.write_all(b"\n")
 }
 
 // The first place from `at` on that holds `b`, or the length.
@@ -89,26 +88,42 @@ fn find(s: &[u8], at: usize, b: u8) -> usize
     i
 }
 
-fn cases(s: &[u8]) {
+fn cases(rt: &impl Print, s: &[u8]) -> io::Result<()> {
     let mut at = 0;
     while at < s.len() {
         let colon = find(s, at, b':');
         if colon == s.len() {
-            return;
+            return Ok(());
         }
         let end = find(s, colon, 254);
         if end == s.len() {
-            return;
+            return Ok(());
         }
         if colon < end {
-            case(&s[at..colon], &s[colon + 1..end]);
+            case(rt, &s[at..colon], &s[colon + 1..end])?;
         }
         at = end + 1;
     }
+    Ok(())
 }
 
-fn main() {
-    let mut text = io::large_buffer();
-    let n = io::read_full(STDIN_FILENO, &mut text);
-    cases(&text[..n]);
+// Reads until the input ends or the buffer is full: how many bytes it holds then.
+fn read_full(input: &mut Stdin, buf: &mut [u8]) -> io::Result<usize>
+    ensures { IfOk result (λ n. n ≤ length buf.new) }
+{
+    let mut done = 0;
+    while done < buf.len() {
+        let got = input.read(&mut buf[done..])?;
+        if got == 0 {
+            break;
+        }
+        done += got;
+    }
+    Ok(done)
+}
+
+fn main(rt: HostRuntime) -> io::Result<()> {
+    let mut text = [0u8; 65536];
+    let n = read_full(&mut rt.stdin(), &mut text)?;
+    cases(&rt, &text[..n])
 }

@@ -1,6 +1,6 @@
 //! `ORDERSHEET_LIB_DIR=DIR cargo run --release --offline` holds the libraries in
-//! DIR, as `rt staticlib desk`, `rt staticlib desk_tests` and `rt staticlib
-//! relation_bench` write them, against `second`; with `--features mock`, `second`
+//! DIR, as `tools/build desk desk_tests relation_bench`
+//! writes them, against `second`; with `--features mock`, `second`
 //! against itself.
 //! `compare` runs every family, `compare WORD...` those whose names hold one of
 //! the words. The last line is `N passed, M failed`, N and M counting inputs: a
