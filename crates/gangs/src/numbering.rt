@@ -11,7 +11,7 @@ use record::{wide_u8, wide_u16};
 
 // The present group, and how many stand around it. shape: 128 for a side group, and its children to come after the present one. at: the first gang
 // of the present child. end: one past the last gang of the group so far.
-#[derive(Drop)]
+#[derive(Clone, Copy)]
 pub struct Place {
     pub depth: usize,
     pub shape: u8,

@@ -9,7 +9,7 @@ use record::wide_u16;
 
 // height: how many trees. low: how many from the last one on that has one of the jobs, or all where none has. mark: 7 neither job is in the row,
 // 5 the first alone, 6 the second alone; both are: 1 they are one job, 2 the first stands ahead of the second, 3 behind it.
-#[derive(Drop)]
+#[derive(Clone, Copy)]
 pub struct Row {
     pub height: usize,
     pub low: usize,
