@@ -1,0 +1,9 @@
+-- `desk::ordersheet_gangs` meets its contract: the call for the gangs does, and its answer is narrow.
+use Rattle.desk.proofs.Bounds.{gangs_narrow}
+use Rattle.desk.proofs.Telling.{tells_gangs}
+use Rattle.desk.proofs.ordersheet_gangs.Goals as goal
+
+pub returns : goal.returns
+returns c =
+    let r = c in
+    tells_gangs r.fewest_gangs-plan.ensures (gangs_narrow r.args.bytes.now) c.packed.ensures

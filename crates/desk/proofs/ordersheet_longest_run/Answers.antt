@@ -1,0 +1,9 @@
+-- `desk::ordersheet_longest_run` meets its contract: the call for the run does, and its answer is narrow.
+use Rattle.desk.proofs.Bounds.{run_narrow}
+use Rattle.desk.proofs.Telling.{tells_run}
+use Rattle.desk.proofs.ordersheet_longest_run.Goals as goal
+
+pub returns : goal.returns
+returns c =
+    let r = c in
+    tells_run r.longest_run-found.ensures (run_narrow r.args.bytes.now) c.packed.ensures

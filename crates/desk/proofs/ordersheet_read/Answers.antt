@@ -1,0 +1,13 @@
+-- `desk::ordersheet_read` meets its contract: the reading does, and its answer is narrow.
+use Rattle.reader.proofs.Whole.{slice_below}
+use Rattle.desk.proofs.Bounds.{record_narrow}
+use Rattle.desk.proofs.Telling.{gives_told}
+use Rattle.desk.proofs.ordersheet_read.Goals as goal
+
+pub returns : goal.returns
+returns c =
+    let k = c in
+    let bytes = k.args.bytes.now in
+    gives_told c.analyse_record-found.ensures
+    (record_narrow _ bytes (slice_below bytes k.shared_slice_known-1.given))
+    c.packed.ensures

@@ -1,0 +1,9 @@
+-- `desk::ordersheet_reason` meets its contract: the call for the reason does, and its answer is narrow.
+use Rattle.desk.proofs.Bounds.{reason_narrow}
+use Rattle.desk.proofs.Telling.{tells_reason}
+use Rattle.desk.proofs.ordersheet_reason.Goals as goal
+
+pub returns : goal.returns
+returns c =
+    let r = c in
+    tells_reason r.reason_between-found.ensures (reason_narrow r.args.bytes.now _ _) c.packed.ensures
