@@ -36,7 +36,7 @@ pub fn ordersheet_read(bytes: &[u8], area: &mut [u8]) -> u64
 
 // The longest run: its answer, the total of hours, how many jobs it has, and these, earliest first, then zeros.
 #[repr(C)]
-#[derive(Drop)]
+#[derive(Clone, Copy)]
 pub struct Run {
     pub answer: u64,
     pub total: u64,
@@ -61,7 +61,7 @@ pub fn ordersheet_longest_run(bytes: &[u8]) -> Run
 
 // The gangs: the answer, how many there are, the hours of each gang's jobs together, and the gang of each job, then zeros.
 #[repr(C)]
-#[derive(Drop)]
+#[derive(Clone, Copy)]
 pub struct Plan {
     pub answer: u64,
     pub count: u64,
@@ -87,7 +87,7 @@ pub fn ordersheet_gangs(bytes: &[u8]) -> Plan
 
 // The reason: the answer, the rule, the position of the lowest group over both jobs, and how many jobs are under it.
 #[repr(C)]
-#[derive(Drop)]
+#[derive(Clone, Copy)]
 pub struct Reason {
     pub answer: u64,
     pub rule: u64,

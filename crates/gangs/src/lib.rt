@@ -10,7 +10,7 @@ use analysis::Verdict;
 
 // The answer, how many gangs, the hours of each gang's jobs together, and the gang of each job; the entries after them are 0. A refusal has a count of
 // 0, and zeros alone.
-#[derive(Drop)]
+#[derive(Clone, Copy)]
 pub struct GangPlan {
     pub verdict: Verdict,
     pub count: usize,

@@ -11,7 +11,7 @@ use analysis::Verdict;
 
 // The answer, the total of hours, how many jobs the run has, and these, earliest first; the entries after them are 0. A refusal has a total and a
 // count of 0, and zeros alone.
-#[derive(Drop)]
+#[derive(Clone, Copy)]
 pub struct LongestRun {
     pub verdict: Verdict,
     pub total: usize,

@@ -5,7 +5,7 @@ ghost use Rattle.longest.specs.Stack.{Linked, Shown};
 use record::wide_u8;
 
 // How many, and these; then zeros.
-#[derive(Drop)]
+#[derive(Clone, Copy)]
 pub struct Showing {
     pub count: usize,
     pub jobs: [u8; 128],

@@ -11,7 +11,7 @@ ghost use Rattle.longest.specs.Stack.{runs, Beside, Joins, Stacked, Stacks, Foun
 use record::{wide_u8, wide_u16};
 
 // The hours together, and the ends of the run.
-#[derive(Drop)]
+#[derive(Clone, Copy)]
 pub struct Run {
     pub total: u32,
     pub first: u8,

@@ -25,7 +25,7 @@ use record::{NODE_ROOM, RECORD_ROOM, wide_u8};
 
 // ok: whether the bytes are a record. Then the job count, the number of groups, the sequences and the hours of each job, whose
 // entries from the count on are 0; all 0 otherwise.
-#[derive(Drop)]
+#[derive(Clone, Copy)]
 pub struct Reading {
     pub ok: bool,
     pub count: usize,
@@ -120,7 +120,7 @@ pub fn read_record(bytes: &[u8]) -> Reading
 // ok: whether the bytes are a record. Then the job count, how many nodes its tree has, these in their order, node before children,
 // as tokens (a leaf is its job; a group is 256, 128 for a side group, and its children minus 1), and the hours of each job; the entries after
 // them are 0, and all are 0 otherwise.
-#[derive(Drop)]
+#[derive(Clone, Copy)]
 pub struct NodeList {
     pub ok: bool,
     pub jobs: usize,

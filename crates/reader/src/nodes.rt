@@ -9,7 +9,7 @@ use record::wide_u8;
 
 // What a node begins with. tag: 0 a leaf, 1 a series group, 2 a parallel group, 3 none: the bits end, or a group has one
 // child. value: the job, or the children minus 1. hours: the job's.
-#[derive(Drop)]
+#[derive(Clone, Copy)]
 pub struct Node {
     pub tag: u8,
     pub value: u8,

@@ -7,7 +7,7 @@ use crate::nodes::Node;
 
 // ok: whether the part is one of a record. done, groups: the leaves and the groups of the record up to its end. least: its smallest
 // job. first, last: the ends of its part of the reverse sequence.
-#[derive(Drop)]
+#[derive(Clone, Copy)]
 pub struct Part {
     pub ok: bool,
     pub done: u8,

@@ -8,7 +8,7 @@ ghost use Rattle.reader_bench.specs.Handed.{Handed};
 
 // What reading a record gives; all 0 where the bytes are none.
 #[repr(C)]
-#[derive(Drop)]
+#[derive(Clone, Copy)]
 pub struct Read {
     pub count: u64,
     pub groups: u64,

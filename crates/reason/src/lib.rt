@@ -12,7 +12,7 @@ use record::wide_u16;
 
 // The answer, the rule (1 the same job, 2 the first before the second, 3 the second before the first, 4 free), the position of the lowest group over
 // both jobs, in nodes from 0, and how many jobs are under it; of one job, its leaf's. A refusal has zeros.
-#[derive(Drop)]
+#[derive(Clone, Copy)]
 pub struct Reason {
     pub verdict: Verdict,
     pub rule: usize,

@@ -17,7 +17,7 @@ pub struct Row {
 }
 
 // The rule, and the position of the lowest node.
-#[derive(Drop)]
+#[derive(Clone, Copy)]
 pub struct Decision {
     pub rule: usize,
     pub position: usize,

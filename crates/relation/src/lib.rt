@@ -10,14 +10,14 @@ pub mod set;
 mod turning;
 
 // Where a search found what it looked for.
-#[derive(Drop)]
+#[derive(Clone, Copy)]
 pub enum Found {
     At(usize),
     Nothing,
 }
 
 // The four jobs that a search found.
-#[derive(Drop)]
+#[derive(Clone, Copy)]
 pub enum FoundFour {
     At(usize, usize, usize, usize),
     Nothing,

@@ -7,7 +7,7 @@ ghost use Rattle.record.specs.Tokens.{field_bits};
 ghost use Rattle.writer.specs.Packing.{Holds, Ready, Takes, Moves, Puts, Ends};
 
 // So many whole bytes, and some bits more in hand: the last ones of a value.
-#[derive(Drop)]
+#[derive(Clone, Copy)]
 pub struct Packing {
     pub at: usize,
     pub have: usize,
@@ -90,7 +90,7 @@ fn finish(bytes: &mut [u8; record::RECORD_ROOM], p: Packing) -> usize
     at + 1
 }
 
-#[derive(Drop)]
+#[derive(Clone, Copy)]
 pub struct Packed {
     pub bytes: [u8; record::RECORD_ROOM],
     pub count: usize,

@@ -32,7 +32,7 @@ fn mark(part: [u64; 2], number: u8, numbers: &mut [u8; 128])
 }
 
 // A part of a set, and how many jobs it has.
-#[derive(Drop)]
+#[derive(Clone, Copy)]
 pub struct Found {
     pub part: [u64; 2],
     pub size: usize,

@@ -74,7 +74,7 @@ fn start_of(g: Group, later: usize, size: usize) -> usize
 }
 
 // How far the tree is written: entries on the stack, fields, groups, and jobs in the forward sequence.
-#[derive(Drop)]
+#[derive(Clone, Copy)]
 pub struct Progress {
     pub height: usize,
     pub count: usize,
@@ -249,7 +249,7 @@ fn open_root(
 }
 
 // The writing after a turn: whether it can go on, and how far it is.
-#[derive(Drop)]
+#[derive(Clone, Copy)]
 pub struct Step {
     pub ok: bool,
     pub p: Progress,
@@ -322,7 +322,7 @@ fn compare(
 }
 
 // The canonical tree of an order: whether there is one, its fields and groups, and the two sequences.
-#[derive(Drop)]
+#[derive(Clone, Copy)]
 pub struct Shape {
     pub ok: bool,
     pub fields: [u16; NODE_ROOM],

@@ -10,7 +10,7 @@ ghost use Rattle.writer.specs.Written.{unwritten, written};
 use crate::{pack, tree};
 
 // Whether there is a record; its bytes and groups, and the two sequences.
-#[derive(Drop)]
+#[derive(Clone, Copy)]
 pub struct Written {
     pub ok: bool,
     pub bytes: [u8; record::RECORD_ROOM],
