@@ -1,9 +1,14 @@
--- How many bytes there are after a read, and how many reads may still come.
-use Rattle.std.proofs.Common.{◌≡◌, ℕ, zero, suc, ◌+◌, ◌-◌, ◌≤◌, ◌<◌, ap, List, Result, Ok, Err, arith}
+-- How many bytes there are to read into, and after a read, and how many reads may still come.
+use Rattle.std.proofs.Common.{◌≡◌, ℕ, zero, suc, ◌+◌, ◌-◌, ◌≤◌, ◌<◌, ap, List, Result, Ok, Err, length, take, drop, length-drop, arith}
 use Rattle.std.proofs.Math.Nat.{min-le_right}
+use lib.Seq.{length-take-le}
 use Rattle.std.specs.declared.io.Error.{Error}
 use Rattle.ordersheet.specs.Reading.{buffer_size, clamp_len, Read, Reads, first, next}
 use Rattle.ordersheet.specs.declared.Taken.{Taken}
+
+-- the part of a buffer after its first bytes
+pub part_long : (done : ℕ) (buf : List ℕ) → length (take (length buf - done) (drop done buf)) ≡ length buf - done
+part_long done buf = length-take-le (length buf - done) (drop done buf) (omega (arith, length-drop done buf))
 
 clamped_few : (answer : Result ℕ Error) (most : ℕ) → clamp_len answer most ≤ most
 clamped_few (Ok k) most = min-le_right k most

@@ -1,11 +1,11 @@
 -- What the readers' calls ask: that the lists serve the callee, and that fewer bits are left.
-use Prim.Native.Nat.{ℕ, suc, ◌+◌, ◌-◌, ◌*◌, ◌<◌}
+use Prim.Native.Nat.{ℕ, suc, ◌+◌, ◌-◌, ◌*◌, ◌≤◌, ◌<◌}
 use mathlib.Core.Path.{◌≡◌}
 use mathlib.Core.List.{List}
 use native.Mathlib.Omega.{arith}
 use lib.ListN.{length}
 use Rattle.record.specs.Bits.{bits_of}
-use Rattle.record.specs.Layout.{kind_bit}
+use Rattle.record.specs.Layout.{most_record_bytes, kind_bit}
 use Rattle.record.proofs.Bytes.{length_bits_of}
 use Rattle.record.proofs.Fields.{length_bits}
 use Rattle.reader.specs.Fields.{NodeAt}
@@ -50,3 +50,8 @@ call_children k {bytes} nd m h tag r less e = (
     },
   ),
 )
+
+-- the next node
+pub node_place : {bytes : List ℕ} {n done gone : ℕ} {seen next hours : List ℕ} → Ready bytes n done gone seen next hours
+    → place done gone ≤ 8 * most_record_bytes
+node_place r = omega (arith, r.few, r.named, r.opened)
