@@ -91,7 +91,8 @@ module _ (low high : List ℕ) (k : ℕ) where
       step_clear u l = same u ∙ false_unless _ (λ e. omega (arith, (inside u k e).0))
 
       pub joins_busy
-          : exists (has (get_or low k 0 ∷ get_or high k 0 ∷ [])) (below 128) ≡ true → (count : ℕ) → count ≡ tally test j n → count ≡ joins_at n (columns low high) k
+          : exists (has (get_or low k 0 ∷ get_or high k 0 ∷ [])) (below 128) ≡ true → (count : ℕ) → count ≡ tally test j n
+          → count ≡ joins_at n (columns low high) k
       joins_busy h count c =
           c ∙ ap length (keep_agree (λ u. bit (get_or test u 0) j) (λ u. columns low high u k) (below n) (λ u m. same u))
           ∙ sym (joins_some n (columns low high) k (busy n inside h))

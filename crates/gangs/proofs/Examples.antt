@@ -51,5 +51,6 @@ examples =
 
 pub shown_gangs : map (λ (e : Example). gang_outcome e.0) examples ≡ map (λ (e : Example). e.1) examples
 unfolding bind exists keep member occurrences up_from below only_if leaves least alternates outranks ahead canonical
-    bits bits_of read_bits kind_of read_forest grouped read_tree every fills spanning beside decode joined_gangs gangs_from gang_count gang gang_hours gang_outcome
+    bits bits_of read_bits kind_of read_forest grouped read_tree every fills spanning beside decode joined_gangs gangs_from gang_count gang gang_hours
+    gang_outcome
 shown_gangs = refl

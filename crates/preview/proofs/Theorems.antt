@@ -90,7 +90,8 @@ preview_full = Numbers.preview_full
 
 -- Of a list that is accepted and not full, and an order at its end.
 
-module _ (n : ℕ) (hours list : List ℕ) (accepted : (pair_outcome roomy n hours list).verdict.number ≡ 0) (room : length list / 2 < 4096) (first second : ℕ) where
+module _ (n : ℕ) (hours list : List ℕ) (accepted : (pair_outcome roomy n hours list).verdict.number ≡ 0) (room : length list / 2 < 4096)
+    (first second : ℕ) where
   -- a number that is no job, and a job before itself: told with the order's place, the list's own length in orders
 
   pub draft_outside : (n ≤ first) ⊎ (n ≤ second) → previewed n hours list first second ≡ answer 5 (length list / 2) 0 0 0

@@ -107,7 +107,13 @@ module _ (k : Kind) (bs : List ℕ) (n done gone : ℕ) (few : n ≤ 128) (nd : 
                   stands = subst (At bs (place done gone)) bits_same (h.leaf_at e);
                   end =
                       ap (λ (q : Part). place q.done q.groups) same
-                      ∙ omega (arith, length-append (bits 7 j) (bits hours_bits (hours_of hours' j)), length_bits 7 j, length_bits hours_bits (hours_of hours' j));
+                      ∙ omega (
+                        arith,
+                        length-append (bits 7 j) (bits hours_bits (hours_of hours' j)),
+                        length_bits 7 j,
+                        length_bits hours_bits
+                            (hours_of hours' j),
+                      );
                   number = ap (λ (q : Part). q.done) same ∙ omega arith;
                   groups = ap (λ (q : Part). q.groups) same ∙ omega arith;
                   least = ap (λ (q : Part). q.least) same;

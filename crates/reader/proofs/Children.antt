@@ -122,7 +122,8 @@ module _ (k : Kind) (bs : List ℕ) (done gone : ℕ) (w v v' : Lists) (x y : Pi
             ∙ a.others u (λ m. out (mathlib.Core.List.Memᴰ.append_left y.forth m));
         room = length-set v'.next end (behind k p q).first ∙ rooms;
         low = b.low;
-        kept = λ u out. b.kept u (λ m. out (mathlib.Core.List.Memᴰ.append_right x.forth m)) ∙ a.kept u (λ m. out (mathlib.Core.List.Memᴰ.append_left y.forth m));
+        kept = λ u out. b.kept u (λ m. out (mathlib.Core.List.Memᴰ.append_right x.forth m))
+            ∙ a.kept u (λ m. out (mathlib.Core.List.Memᴰ.append_left y.forth m));
         entries = b.entries ∙ a.entries;
       }
 

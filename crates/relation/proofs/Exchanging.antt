@@ -100,7 +100,8 @@ module _ (a b : List ℕ) (two_a : length a ≡ 2) (two_b : length b ≡ 2) (e :
     abbrev shr : ℕ → ℕ
     shr x = x / 2 ^ (2 ^ e)
 
-    pub first_within : (v : ℕ) → has (chosen (get_or a 0 0) (shl (get_or b 0 0)) ∷ chosen (get_or a 1 0) (shl (get_or b 1 0)) ∷ []) v ≡ first_row_of e (has a) (has b) v
+    pub first_within : (v : ℕ) → has (chosen (get_or a 0 0) (shl (get_or b 0 0)) ∷ chosen (get_or a 1 0) (shl (get_or b 1 0)) ∷ []) v ≡ first_row_of e
+        (has a) (has b) v
     first_within = row_of _ _ (first_row_of e (has a) (has b)) low high (beyond_first (omega arith))
       where
         low : (i : ℕ) → i < 64 → bit (chosen (get_or a 0 0) (shl (get_or b 0 0))) i ≡ first_row_of e (has a) (has b) i
@@ -122,7 +123,8 @@ module _ (a b : List ℕ) (two_a : length a ≡ 2) (two_b : length b ≡ 2) (e :
             (λ h.
             bit_chosen (get_or a 1 0) (shl (get_or b 1 0)) clear i m fits.fits (kept i m (sym (digit_above e 6 i l) ∙ h)) ∙ sym (has_high a i m))
 
-    pub second_within : (v : ℕ) → has (chosen (shr (get_or a 0 0)) (get_or b 0 0) ∷ chosen (shr (get_or a 1 0)) (get_or b 1 0) ∷ []) v ≡ second_row_of e (has a) (has b) v
+    pub second_within : (v : ℕ) → has (chosen (shr (get_or a 0 0)) (get_or b 0 0) ∷ chosen (shr (get_or a 1 0)) (get_or b 1 0) ∷ []) v ≡ second_row_of
+        e (has a) (has b) v
     second_within = row_of _ _ (second_row_of e (has a) (has b)) low high beyond_second
       where
         low : (i : ℕ) → i < 64 → bit (chosen (shr (get_or a 0 0)) (get_or b 0 0)) i ≡ second_row_of e (has a) (has b) i

@@ -1,5 +1,6 @@
 -- The lines ahead of the order lines: the count line, and the lines of hours one after the other.
-use Rattle.std.proofs.Common.{◌≡◌, ℕ, suc, ◌+◌, ◌-◌, ◌<◌, ◌≤◌, List, [], ◌∷◌, ◌++◌, length, take, drop, sym, refl, ap, ◌∙◌, subst, inl, arith, length-append, length-drop, take_all, drop-drop}
+use Rattle.std.proofs.Common.{◌≡◌, ℕ, suc, ◌+◌, ◌-◌, ◌<◌, ◌≤◌, List, [], ◌∷◌, ◌++◌, length}
+use Rattle.std.proofs.Common.{take, drop, sym, refl, ap, ◌∙◌, subst, inl, arith, length-append, length-drop, take_all, drop-drop}
 use Rattle.sheet.specs.Text.{most_digits, hours_digits, line_endings}
 use Rattle.sheet.specs.Scan.{count_field, hours_field, Read, broken, most, hours_ahead, arcs_ahead, field_of}
 use Rattle.sheet.specs.Scan.{endings, after_hours, ended, whole, scan_from, scan}
@@ -92,7 +93,8 @@ module _ {s : List ℕ} {n : ℕ} {held list : List ℕ} {at job left : ℕ} (g 
           within = omega (arith, g.within, hours_within r, length_of);
         }
 
-    pub timing_broken : {place : ℕ} → ReadsNumber hours_digits line_endings rest 0 (part.Broken place) → ReadsHours s n held (hours_read.Broken (at + place)) list
+    pub timing_broken : {place : ℕ} → ReadsNumber hours_digits line_endings rest 0 (part.Broken place)
+        → ReadsHours s n held (hours_read.Broken (at + place)) list
     unfolding endings most hours_ahead arcs_ahead field_of whole after_hours
     timing_broken {place} r = record {
       hours = g.hours;

@@ -10,7 +10,6 @@ returns-then-list-ne0 c = gives_refused c.refused.ensures (pairs_odd _ _ _ _ c.i
 
 pub returns : goal.returns
 returns c =
-    let s = c in
-    let list = s.args.list.now in
+    let list = c.args.list.now in
     gives_same (sym (pairs_even _ _ _ list c.if-list-ne0.false))
-    (c.of_count.ensures s.args.hours.now (pairs list) (λ few. refl) (pairs_length list) (λ few. refl))
+    (c.of_count.ensures c.args.hours.now (pairs list) (λ few. refl) (pairs_length list) (λ few. refl))

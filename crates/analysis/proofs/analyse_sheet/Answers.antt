@@ -10,15 +10,15 @@ pub returns-then-sheet-gt-LONGEST_SHEET : goal.returns-then-sheet-gt-LONGEST_SHE
 returns-then-sheet-gt-LONGEST_SHEET c = gives_refused c.refused.ensures (sheet_long _ _ c.if-sheet-gt-LONGEST_SHEET.true) refl
 
 pub of_sheet-requires : goal.of_sheet-requires
-of_sheet-requires c = let t = c in record {
-  sheet_len_bound = t.if-sheet-gt-LONGEST_SHEET.false;
-  fact = inr t.if-sheet-le-SMALL_SHEET.true;
+of_sheet-requires c = record {
+  sheet_len_bound = c.if-sheet-gt-LONGEST_SHEET.false;
+  fact = inr c.if-sheet-le-SMALL_SHEET.true;
 }
 
 pub of_sheet-requires-then-sheet-le-SHORT_SHEET : goal.of_sheet-requires-then-sheet-le-SHORT_SHEET
-of_sheet-requires-then-sheet-le-SHORT_SHEET c = let t = c in record {
-  sheet_len_bound = t.if-sheet-gt-LONGEST_SHEET.false;
-  fact = inr t.if-sheet-le-SHORT_SHEET.true;
+of_sheet-requires-then-sheet-le-SHORT_SHEET c = record {
+  sheet_len_bound = c.if-sheet-gt-LONGEST_SHEET.false;
+  fact = inr c.if-sheet-le-SHORT_SHEET.true;
 }
 
 pub of_sheet-requires-2 : goal.of_sheet-requires-2

@@ -7,9 +7,9 @@ use Rattle.closure.proofs.transitive_closure.Goals as goal
 
 pub finish_all-requires : goal.finish_all-requires
 finish_all-requires c =
-    let s = c in record {
-      n_bound = (s.requires.n_bound, refl);
-      inside = s.requires.inside;
+    record {
+      n_bound = (c.requires.n_bound, refl);
+      inside = c.requires.inside;
       by_index = holds_blank 128;
     }
 
@@ -21,9 +21,7 @@ returns-then-finish_all c = let e = c.finish_all.ensures in record {
 
 pub returns : goal.returns
 returns c =
-    let i = c in
-    let f = i in
-    let a = f.args in record {
+    let a = c.args in record {
       by_index = c.passed.ensures.by_index;
-      joins_after = c.passed.ensures.joins_after ∙ sym (count_cyclic a.n (holds a.t) (f.finish_all.ensures.cyclic i.if-finish_all.false));
+      joins_after = c.passed.ensures.joins_after ∙ sym (count_cyclic a.n (holds a.t) (c.finish_all.ensures.cyclic c.if-finish_all.false));
     }

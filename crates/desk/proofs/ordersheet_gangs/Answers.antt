@@ -5,5 +5,4 @@ use Rattle.desk.proofs.ordersheet_gangs.Goals as goal
 
 pub returns : goal.returns
 returns c =
-    let r = c in
-    tells_gangs r.fewest_gangs-plan.ensures (gangs_narrow r.args.bytes.now) c.packed.ensures
+    tells_gangs c.fewest_gangs-plan.ensures (gangs_narrow c.args.bytes.now) c.packed.ensures

@@ -5,5 +5,4 @@ use Rattle.desk.proofs.ordersheet_longest_run.Goals as goal
 
 pub returns : goal.returns
 returns c =
-    let r = c in
-    tells_run r.longest_run-found.ensures (run_narrow r.args.bytes.now) c.packed.ensures
+    tells_run c.longest_run-found.ensures (run_narrow c.args.bytes.now) c.packed.ensures

@@ -6,8 +6,7 @@ use Rattle.desk.proofs.ordersheet_read.Goals as goal
 
 pub returns : goal.returns
 returns c =
-    let k = c in
-    let bytes = k.args.bytes.now in
+    let bytes = c.args.bytes.now in
     gives_told c.analyse_record-found.ensures
-    (record_narrow _ bytes (slice_below bytes k.shared_slice_known-1.given))
+    (record_narrow _ bytes (slice_below bytes c.type_inv.bytes))
     c.packed.ensures

@@ -5,5 +5,4 @@ use Rattle.desk.proofs.ordersheet_reason.Goals as goal
 
 pub returns : goal.returns
 returns c =
-    let r = c in
-    tells_reason r.reason_between-found.ensures (reason_narrow r.args.bytes.now _ _) c.packed.ensures
+    tells_reason c.reason_between-found.ensures (reason_narrow c.args.bytes.now _ _) c.packed.ensures

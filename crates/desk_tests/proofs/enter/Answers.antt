@@ -6,7 +6,10 @@ use Rattle.desk_tests.proofs.enter.Goals.{then-count-gt128, else-count-gt128}
 
 pub loop-i-init : goal.loop-i-init
 loop-i-init c =
-    elim c.if-count-gt128.branch [ then-count-gt128 w ↦ enter_all _ _ _ (omega arith) (omega arith) | else-count-gt128 w ↦ enter_some _ _ _ (omega arith) (omega arith) ]
+    elim c.if-count-gt128.branch [
+      | then-count-gt128 w ↦ enter_all _ _ _ (omega arith) (omega arith)
+      | else-count-gt128 w ↦ enter_some _ _ _ (omega arith) (omega arith)
+    ]
 
 pub loop-i-preserved : goal.loop-i-preserved
 loop-i-preserved c = enter_next _ _ _ _ _ c.loop-i.invariant c.loop-i-test.true

@@ -5,5 +5,4 @@ use Rattle.desk_tests.proofs.ordersheet_test_pairs.Goals as goal
 
 pub returns : goal.returns
 returns c =
-    let s = c in
-    gives_shown s.analyse_pairs-found.ensures (pair_narrow _ _ _ _) s.shown.ensures
+    gives_shown c.analyse_pairs-found.ensures (pair_narrow _ _ _ _) c.shown.ensures

@@ -5,5 +5,4 @@ use Rattle.desk_tests.proofs.ordersheet_test_sheet.Goals as goal
 
 pub returns : goal.returns
 returns c =
-    let s = c in
-    gives_shown s.analyse_sheet-found.ensures (sheet_narrow _ _) s.shown.ensures
+    gives_shown c.analyse_sheet-found.ensures (sheet_narrow _ _) c.shown.ensures

@@ -26,7 +26,8 @@ returns-then-bytes-eq0 c =
 
 pub returns-then-bytes-gt-RECORD_ROOM : goal.returns-then-bytes-gt-RECORD_ROOM
 returns-then-bytes-gt-RECORD_ROOM c =
-    whole_none _ _ _ _ _ (slice_below c.args.bytes.now c.type_inv.bytes) (none_long _ c.if-bytes-gt-RECORD_ROOM.true) (refused_not c.refused-then-bytes-gt-RECORD_ROOM.ensures)
+    whole_none _ _ _ _ _ (slice_below c.args.bytes.now c.type_inv.bytes) (none_long _ c.if-bytes-gt-RECORD_ROOM.true)
+    (refused_not c.refused-then-bytes-gt-RECORD_ROOM.ensures)
 
 pub tree-part-requires : goal.tree-part-requires
 tree-part-requires c =

@@ -30,6 +30,6 @@ searched-requires c = record {
 
 pub returns : goal.returns
 returns c =
-    let w = c in
-    let a = w.args in
-    c.searched.ensures ∙ ap (λ r. packed (first_n_of a.n r)) w.closed-after.ensures.result_value ∙ packed_fit a.n (pairs a.arcs.now) (fit (goal.at.returns c).Else-not-fits)
+    let a = c.args in
+    c.searched.ensures ∙ ap (λ r. packed (first_n_of a.n r)) c.closed-after.ensures.result_value
+    ∙ packed_fit a.n (pairs a.arcs.now) (fit (goal.at.returns c).Else-not-fits)

@@ -33,13 +33,9 @@ transitive_closure-requires-in-loop c =
     let e = fits_inside _ _ (fit (goal.at.transitive_closure-requires-in-loop c).Else-not-fits) c.table_of-table.result c.table_of-table.ensures in
     record { n_bound = e.0; inside = e.1 }
 
-pub loop-smaller : goal.loop-smaller
-loop-smaller c = omega arith
-
 pub loop-preserved : goal.loop-preserved
 loop-preserved c = c.transitive_closure-in-loop.ensures.joins_after
 
 pub returns : goal.returns
 returns c =
-    let t = c in
-    c.loop.invariant ∙ joins_fit _ _ (fit (goal.at.returns c).Else-not-fits) t.table_of-table.result t.table_of-table.ensures
+    c.loop.invariant ∙ joins_fit _ _ (fit (goal.at.returns c).Else-not-fits) c.table_of-table.result c.table_of-table.ensures

@@ -9,11 +9,9 @@ use Rattle.relation_bench.proofs.fits.Goals as goal
 pub returns-in-At : goal.returns-in-At
 unfolding fits nothing
 returns-in-At c =
-    let p = c in
-    ap (λ o. nothing o && leb p.args.n 128) (sym (ap found c.in-At.is) ∙ p.first_outside-found.ensures)
+    ap (λ o. nothing o && leb c.args.n 128) (sym (ap found c.in-At.is) ∙ c.first_outside-found.ensures)
 
 pub returns-in-Nothing : goal.returns-in-Nothing
 unfolding fits nothing
 returns-in-Nothing c =
-    let p = c in
-    ap (λ o. nothing o && leb p.args.n 128) (sym (ap found c.in-Nothing.is) ∙ p.first_outside-found.ensures)
+    ap (λ o. nothing o && leb c.args.n 128) (sym (ap found c.in-Nothing.is) ∙ c.first_outside-found.ensures)

@@ -7,11 +7,9 @@ use Rattle.relation_bench.proofs.searched.Goals as goal
 pub returns-in-At : goal.returns-in-At
 unfolding packed
 returns-in-At c =
-    let w = c in
-    ap (λ q. packed (found_four q)) (sym c.in-At.is) ∙ ap packed w.first_n-found.ensures
+    ap (λ q. packed (found_four q)) (sym c.in-At.is) ∙ ap packed c.first_n-found.ensures
 
 pub returns-in-Nothing : goal.returns-in-Nothing
 unfolding packed
 returns-in-Nothing c =
-    let w = c in
-    ap (λ q. packed (found_four q)) (sym c.in-Nothing.is) ∙ ap packed w.first_n-found.ensures
+    ap (λ q. packed (found_four q)) (sym c.in-Nothing.is) ∙ ap packed c.first_n-found.ensures

@@ -26,19 +26,28 @@ pub loop-i-init : goal.loop-i-init
 loop-i-init c = record { within = omega arith; sum_is = sym (zero-mul (bytes c.args.n c.args.hours.now c.args.after)); few = omega arith }
 
 pub write_record-w-requires : goal.write_record-w-requires
-write_record-w-requires c = let s = c in record {
-  n_nonzero = (s.requires.n_nonzero.0, s.requires.n_nonzero.1);
-  strict = s.requires.strict;
-  inside = s.requires.inside;
-  by_index = s.requires.by_index;
-  all_below = s.requires.all_below;
+write_record-w-requires c = record {
+  n_nonzero = (c.requires.n_nonzero.0, c.requires.n_nonzero.1);
+  strict = c.requires.strict;
+  inside = c.requires.inside;
+  by_index = c.requires.by_index;
+  all_below = c.requires.all_below;
 }
 
 pub overflow_add-sum : goal.overflow_add-sum
 overflow_add-sum c =
-    let s = c in
     let l = c.loop-i in
-    record { fits = omega (arith, l.invariant.few, l.invariant.within, s.requires.n_nonzero.2, count (goal.at.overflow_add-sum c).After-write_record-w, few (goal.at.overflow_add-sum c).Start) }
+    record {
+      fits = omega (
+        arith,
+        l.invariant.few,
+        l.invariant.within,
+        c.requires.n_nonzero.2,
+        count
+            (goal.at.overflow_add-sum c).After-write_record-w,
+        few (goal.at.overflow_add-sum c).Start,
+      );
+    }
 
 pub overflow_add-i : goal.overflow_add-i
 overflow_add-i c = record { fits = omega (arith, c.loop-i-test.true, c.requires.n_nonzero.2) }
@@ -48,14 +57,13 @@ loop-i-smaller c = omega (arith, c.loop-i-test.true)
 
 pub loop-i-preserved : goal.loop-i-preserved
 loop-i-preserved c =
-    let s = c in
     let l = c.loop-i in
-    subst (λ k. Summed (bytes s.args.n s.args.hours.now s.args.after) s.args.rounds (l.sum + k) (l.i + 1)) (sym (count (goal.at.loop-i-preserved c).After-write_record-w))
-    (summed_next (bytes s.args.n s.args.hours.now s.args.after) s.args.rounds l.sum l.i c.loop-i-test.true (few (goal.at.loop-i-preserved c).Start) l.invariant)
+    subst (λ k. Summed (bytes c.args.n c.args.hours.now c.args.after) c.args.rounds (l.sum + k) (l.i + 1))
+    (sym (count (goal.at.loop-i-preserved c).After-write_record-w))
+    (summed_next (bytes c.args.n c.args.hours.now c.args.after) c.args.rounds l.sum l.i c.loop-i-test.true (few (goal.at.loop-i-preserved c).Start) l.invariant)
 
 pub returns : goal.returns
 returns c =
-    let s = c in
     let l = c.loop-i in
-    let e : l.i ≡ s.args.rounds = omega (arith, l.invariant.within, c.loop-i-test.false) in
-    l.invariant.sum_is ∙ ap (λ a. a * bytes s.args.n s.args.hours.now s.args.after) e
+    let e : l.i ≡ c.args.rounds = omega (arith, l.invariant.within, c.loop-i-test.false) in
+    l.invariant.sum_is ∙ ap (λ a. a * bytes c.args.n c.args.hours.now c.args.after) e

@@ -6,23 +6,10 @@ use Rattle.analysis.proofs.areas.copy.Goals as goal
 pub loop-i-init : goal.loop-i-init
 loop-i-init c = copy_start _ _ _
 
-pub bounds-bytes-i : goal.bounds-bytes-i
-bounds-bytes-i c = omega arith
-
-pub bounds-area-i : goal.bounds-area-i
-bounds-area-i c = omega arith
-
-pub overflow_step-i : goal.overflow_step-i
-overflow_step-i c = omega arith
-
-pub loop-i-smaller : goal.loop-i-smaller
-loop-i-smaller c = omega arith
-
 pub loop-i-preserved : goal.loop-i-preserved
 loop-i-preserved c =
     let l = c.loop-i in
-    let s = c in
-    copy_next _ _ _ _ _ l.invariant c.loop-i-test.true (omega (arith, s.requires)) s.requires.2
+    copy_next _ _ _ _ _ l.invariant c.loop-i-test.true (omega (arith, c.requires)) c.requires.2
 
 pub shape_of-area : goal.shape_of-area
 shape_of-area c = c.loop-i.invariant.size
@@ -30,5 +17,4 @@ shape_of-area c = c.loop-i.invariant.size
 pub returns : goal.returns
 returns c =
     let l = c.loop-i in
-    let s = c in
-    copy_end _ _ _ _ _ l.invariant c.loop-i-test.false (omega (arith, s.requires))
+    copy_end _ _ _ _ _ l.invariant c.loop-i-test.false (omega (arith, c.requires))

@@ -14,16 +14,11 @@ loop-i-init c = passed_none (ltb most_hours) _
 
 pub returns-then-large : goal.returns-then-large
 returns-then-large c =
-    let l = c in
-    passed_hit (ltb most_hours) _ l.loop-i.invariant l.loop-i-test.true (sym c.large.ensures ∙ c.if-large.true)
-
-pub loop-i-smaller : goal.loop-i-smaller
-loop-i-smaller c = omega arith
+    passed_hit (ltb most_hours) _ c.loop-i.invariant c.loop-i-test.true (sym c.large.ensures ∙ c.if-large.true)
 
 pub loop-i-preserved : goal.loop-i-preserved
 loop-i-preserved c =
-    let l = c in
-    passed_next (ltb most_hours) _ l.loop-i.invariant l.loop-i-test.true (sym c.large.ensures ∙ c.if-large.false)
+    passed_next (ltb most_hours) _ c.loop-i.invariant c.loop-i-test.true (sym c.large.ensures ∙ c.if-large.false)
 
 pub returns : goal.returns
 returns c = passed_end (ltb most_hours) _ c.loop-i.invariant c.loop-i-test.false

@@ -7,13 +7,9 @@ use Rattle.analysis.proofs.hours.padded.Goals as goal
 pub loop-i-init : goal.loop-i-init
 loop-i-init c = copy_start _ _ _
 
-pub loop-i-smaller : goal.loop-i-smaller
-loop-i-smaller c = omega arith
-
 pub loop-i-preserved : goal.loop-i-preserved
 loop-i-preserved c =
-    let l = c in
-    copy_next _ _ _ _ _ l.loop-i.invariant c.loop-i-test.true (omega arith) l.requires
+    copy_next _ _ _ _ _ c.loop-i.invariant c.loop-i-test.true (omega arith) c.requires
 
 pub returns : goal.returns
 returns c = padded_all _ _ _ c.loop-i.invariant c.loop-i-test.false

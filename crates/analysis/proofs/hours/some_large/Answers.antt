@@ -12,23 +12,19 @@ use Rattle.analysis.proofs.hours.some_large.Goals.{then-large, else-large}
 pub loop-i-init : goal.loop-i-init
 loop-i-init c = (λ _. passed_none (ltb most_hours) _, λ e. absurd (clash e refl))
 
-pub loop-i-smaller : goal.loop-i-smaller
-loop-i-smaller c = omega arith
-
 pub loop-i-preserved : goal.loop-i-preserved
 loop-i-preserved c =
-    let l = c in
-    let v = l.loop-i.invariant in
+    let v = c.loop-i.invariant in
     elim c.if-large.branch [
       | then-large w ↦ (
         λ e. absurd (clash w.some-is e),
         λ _.
             ⊎_elim (λ f. v.1 f)
-            (λ f. (_, passed_hit (ltb most_hours) _ (v.0 f) l.loop-i-test.true (sym c.large.ensures ∙ w.if-large.true)))
-            (decided l.loop-i.some),
+            (λ f. (_, passed_hit (ltb most_hours) _ (v.0 f) c.loop-i-test.true (sym c.large.ensures ∙ w.if-large.true)))
+            (decided c.loop-i.some),
       )
       | else-large w ↦ (
-        λ e. passed_next (ltb most_hours) _ (v.0 (sym w.some-is ∙ e)) l.loop-i-test.true (sym c.large.ensures ∙ w.if-large.false),
+        λ e. passed_next (ltb most_hours) _ (v.0 (sym w.some-is ∙ e)) c.loop-i-test.true (sym c.large.ensures ∙ w.if-large.false),
         λ e. v.1 (sym w.some-is ∙ e),
       )
     ]

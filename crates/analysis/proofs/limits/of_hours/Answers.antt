@@ -11,22 +11,18 @@ returns-then-hours-n c = gives_refused c.refused.ensures (timed_12 _ _ _ _ c.if-
 
 pub of_list-requires : goal.of_list-requires
 of_list-requires c =
-    let Found-None = c.in-Nothing.is in
-    let test = c in
-    let s = test in record {
-      n_nonzero = s.requires;
-      hours_len = (test.if-hours-n.false, large_below s.args.hours.now (sym test.first_large-large.ensures ∙ ap found Found-None));
+    let none_here = c.in-Nothing.is in
+    record {
+      n_nonzero = c.requires;
+      hours_len = (c.if-hours-n.false, large_below c.args.hours.now (sym c.first_large-large.ensures ∙ ap found none_here));
     }
 
 pub returns-in-At : goal.returns-in-At
 returns-in-At c =
-    let test = c in
     gives_refused c.refused-in-At.ensures
-    (timed_13 _ _ _ _ _ test.if-hours-n.false (sym test.first_large-large.ensures ∙ ap found c.in-At.is)) refl
+    (timed_13 _ _ _ _ _ c.if-hours-n.false (sym c.first_large-large.ensures ∙ ap found c.in-At.is)) refl
 
 pub returns-in-Nothing : goal.returns-in-Nothing
 returns-in-Nothing c =
-    let told = c in
-    let test = told in
-    let none_here = sym test.first_large-large.ensures ∙ ap found told.in-Nothing.is in
-    gives_same (sym (timed_listed _ _ _ _ test.if-hours-n.false none_here)) c.of_list.ensures
+    let none_here = sym c.first_large-large.ensures ∙ ap found c.in-Nothing.is in
+    gives_same (sym (timed_listed _ _ _ _ c.if-hours-n.false none_here)) c.of_list.ensures

@@ -7,9 +7,9 @@ use Rattle.analysis.proofs.limits.of_list.Goals as goal
 
 pub of_named-requires : goal.of_named-requires
 of_named-requires c =
-    let s = c in record {
-      n_nonzero = s.requires.n_nonzero;
-      hours_len = s.requires.hours_len;
+    record {
+      n_nonzero = c.requires.n_nonzero;
+      hours_len = c.requires.hours_len;
       list_value = sym c.first_outside-far.ensures ∙ ap found c.in-Nothing.is;
     }
 

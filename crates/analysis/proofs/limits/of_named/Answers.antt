@@ -8,21 +8,18 @@ use Rattle.analysis.proofs.limits.of_named.Goals as goal
 
 pub of_arcs-requires : goal.of_arcs-requires
 of_arcs-requires c =
-    let s = c in record {
-      n_nonzero = s.requires.n_nonzero;
-      within = outside_none s.args.n (pairs s.args.list.now) s.requires.list_value;
-      hours_len = s.requires.hours_len;
+    record {
+      n_nonzero = c.requires.n_nonzero;
+      within = outside_none c.args.n (pairs c.args.list.now) c.requires.list_value;
+      hours_len = c.requires.hours_len;
     }
 
 pub returns-in-At : goal.returns-in-At
 returns-in-At c =
-    let s = c in
     let here = sym c.first_loop-own.ensures ∙ ap found c.in-At.is in
-    gives_refused c.refused.ensures (listed_6 _ _ _ _ _ s.requires.list_value here) refl
+    gives_refused c.refused.ensures (listed_6 _ _ _ _ _ c.requires.list_value here) refl
 
 pub returns-in-Nothing : goal.returns-in-Nothing
 returns-in-Nothing c =
-    let test = c in
-    let s = test in
-    let none_here = sym test.first_loop-own.ensures ∙ ap found c.in-Nothing.is in
-    gives_same (sym (listed_order _ _ _ _ s.requires.list_value none_here)) c.of_arcs.ensures
+    let none_here = sym c.first_loop-own.ensures ∙ ap found c.in-Nothing.is in
+    gives_same (sym (listed_order _ _ _ _ c.requires.list_value none_here)) c.of_arcs.ensures

@@ -26,9 +26,8 @@ module _ (c : goal.After-order_of-after) (d : Decoded c.args.bytes.now c.read_re
 
 pub returns-then-not-read : goal.returns-then-not-read
 returns-then-not-read c =
-    let s = c in
-    let b = s.args.bytes.now in
-    let ar = s.args.area.now in
+    let b = c.args.bytes.now in
+    let ar = c.args.area.now in
     let r = c.read_record-read in
     gives_told c.refused.ensures
     (gives_11 b r.result ar r.ensures (not-true _ c.if-not-read.true))
@@ -39,58 +38,59 @@ order_of-after-requires c =
     record { n_bound = e.0; all_below = e.1 }
 
 pub reduced-reduced-requires : goal.reduced-reduced-requires
-reduced-reduced-requires c = record {
-  n_bound = (read_tree_lem (goal.at.reduced-reduced-requires c).Else-not-read).spells.most;
-  strict = order_strict (goal.at.reduced-reduced-requires c).After-order_of-after (read_tree_lem (goal.at.reduced-reduced-requires c).Else-not-read);
-  inside = order_inside (goal.at.reduced-reduced-requires c).After-order_of-after (read_tree_lem (goal.at.reduced-reduced-requires c).Else-not-read);
-}
+reduced-reduced-requires c =
+    let p = goal.at.reduced-reduced-requires c in
+    let d = read_tree_lem p.Else-not-read in
+    record {
+      n_bound = d.spells.most;
+      strict = order_strict p.After-order_of-after d;
+      inside = order_inside p.After-order_of-after d;
+    }
 
 pub pair_count-count-requires : goal.pair_count-count-requires
 pair_count-count-requires c =
-    let o = c in record {
-      n_bound = (read_tree_lem (goal.at.pair_count-count-requires c).Else-not-read).spells.most;
-      inside = reduced_inside _ _ c.reduced-reduced.result (order_inside (goal.at.pair_count-count-requires c).After-order_of-after (read_tree_lem (goal.at.pair_count-count-requires c).Else-not-read)) c.reduced-reduced.ensures;
+    let p = goal.at.pair_count-count-requires c in
+    let d = read_tree_lem p.Else-not-read in
+    record {
+      n_bound = d.spells.most;
+      inside = reduced_inside _ _ c.reduced-reduced.result (order_inside p.After-order_of-after d) c.reduced-reduced.ensures;
     }
 
 pub overflow_mul-count : goal.overflow_mul-count
 overflow_mul-count c =
     let red = c.reduced-reduced in
-    let o = c in
+    let p = goal.at.overflow_mul-count c in
+    let d = read_tree_lem p.Else-not-read in
     record {
       fits = omega (
         arith,
-        count_few _ _ red.result c.pair_count-count.result (read_tree_lem (goal.at.overflow_mul-count c).Else-not-read).spells.most (order_strict (goal.at.overflow_mul-count c).After-order_of-after (read_tree_lem (goal.at.overflow_mul-count c).Else-not-read)) red.ensures c.pair_count-count.ensures,
+        count_few _ _ red.result c.pair_count-count.result d.spells.most (order_strict p.After-order_of-after d) red.ensures
+            c.pair_count-count.ensures,
       );
     }
 
 pub returns-then-area-count : goal.returns-then-area-count
 returns-then-area-count c =
-    let m = c in
-    let o = m in
-    let s = c in
-    let b = s.args.bytes.now in
-    let ar = s.args.area.now in
-    let red = m.reduced-reduced in
+    let a = c.args in
+    let red = c.reduced-reduced in
     gives_told c.refused-then-area-count.ensures
-    (back_10 b _ (read_tree_lem (goal.at.returns-then-area-count c).Else-not-read) o.order_of-after.result o.order_of-after.ensures red.result red.ensures m.pair_count-count.result m.pair_count-count.ensures
-    ar c.if-area-count.true)
+    (back_10 a.bytes.now _ (read_tree_lem (goal.at.returns-then-area-count c).Else-not-read) c.order_of-after.result c.order_of-after.ensures
+    red.result red.ensures c.pair_count-count.result c.pair_count-count.ensures a.area.now c.if-area-count.true)
 
 pub write_pairs-requires : goal.write_pairs-requires
 write_pairs-requires c =
-    let m = c in
-    let o = m in
-    let red = m.reduced-reduced in record {
-      n_bound = (read_tree_lem (goal.at.write_pairs-requires c).Else-not-read).spells.most;
-      inside = reduced_inside _ _ red.result (order_inside (goal.at.write_pairs-requires c).After-order_of-after (read_tree_lem (goal.at.write_pairs-requires c).Else-not-read)) red.ensures;
-      t_in_bounds = omega (arith, m.pair_count-count.ensures, c.if-area-count.false);
+    let red = c.reduced-reduced in
+    let p = goal.at.write_pairs-requires c in
+    let d = read_tree_lem p.Else-not-read in
+    record {
+      n_bound = d.spells.most;
+      inside = reduced_inside _ _ red.result (order_inside p.After-order_of-after d) red.ensures;
+      t_in_bounds = omega (arith, c.pair_count-count.ensures, c.if-area-count.false);
     }
 
 pub returns : goal.returns
 returns c =
-    let w = c in
-    let m = w in
-    let o = m in
-    let s = c in
-    let red = m.reduced-reduced in
-    back_0 s.args.bytes.now _ (read_tree_lem (goal.at.returns c).Else-not-read) o.order_of-after.result o.order_of-after.ensures red.result red.ensures
-    m.pair_count-count.result m.pair_count-count.ensures s.args.area.now w.if-area-count.false _ w.write_pairs.ensures
+    let a = c.args in
+    let red = c.reduced-reduced in
+    back_0 a.bytes.now _ (read_tree_lem (goal.at.returns c).Else-not-read) c.order_of-after.result c.order_of-after.ensures red.result
+    red.ensures c.pair_count-count.result c.pair_count-count.ensures a.area.now c.if-area-count.false _ c.write_pairs.ensures

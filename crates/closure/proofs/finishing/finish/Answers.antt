@@ -42,13 +42,13 @@ but c x =
 pub returns : goal.returns
 unfolding holds
 returns c =
-    let j = c in
-    let s = j in
-    let a = s.args in
+    let a = c.args in
     let made = a.made.now in record {
-      made_len_2 = length-set made a.at j.joined-whole.result ∙ s.requires.made_len;
+      made_len_2 = length-set made a.at c.joined-whole.result ∙ c.requires.made_len;
       by_index_3 = but (goal.at.returns c).After-difference;
-      by_index_4 = λ n p. rows_next n (holds a.t.now) made a.left a.joins.now p a.at s.requires.at_value s.requires.by_index c.difference.result (but (goal.at.returns c).After-difference)
-          (get_or a.t.now a.at []) j.joined-whole.result (omega (arith, at_row (goal.at.returns c).Start, s.requires.made_len)) (λ x. refl) j.joined-whole.ensures.by_index
-          _ j.joined-whole.ensures.joins_after;
+      by_index_4 = λ n p. rows_next n (holds a.t.now) made a.left a.joins.now p a.at c.requires.at_value c.requires.by_index c.difference.result
+          (but (goal.at.returns c).After-difference)
+          (get_or a.t.now a.at []) c.joined-whole.result (omega (arith, at_row (goal.at.returns c).Start, c.requires.made_len)) (λ x. refl)
+          c.joined-whole.ensures.by_index
+          _ c.joined-whole.ensures.joins_after;
     }

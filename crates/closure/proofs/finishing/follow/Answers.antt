@@ -14,9 +14,8 @@ use Rattle.closure.proofs.finishing.follow.Goals as goal
 
 pub loop-more-init : goal.loop-more-init
 loop-more-init c =
-    let s = c in
-    let g = s.args in
-    search_none (holds g.t.now) g.made.now g.left.now g.joins.now g.stack.now _ g.root s.requires.made_len.0 s.requires.made_len.1 s.requires.root_value
+    let g = c.args in
+    search_none (holds g.t.now) g.made.now g.left.now g.joins.now g.stack.now _ g.root c.requires.made_len.0 c.requires.made_len.1 c.requires.root_value
     has_blank
 
 at_row : (c : goal.At-loop-more) → c.loop-more.at < 128

@@ -17,31 +17,24 @@ without_smallest-others-requires c = sym c.inhabited.ensures ∙ c.loop-rest-tes
 
 pub join-more-requires : goal.join-more-requires
 join-more-requires c =
-    let w = c in
-    let q = w in
-    let l = q in
     omega (
       arith,
-      l.loop-rest.invariant.counted,
-      l.requires,
-      members_less l.loop-rest.rest _ _ q.smallest-v.ensures w.without_smallest-others.ensures,
+      c.loop-rest.invariant.counted,
+      c.requires,
+      members_less c.loop-rest.rest _ _ c.smallest-v.ensures c.without_smallest-others.ensures,
     )
 
 pub loop-rest-smaller : goal.loop-rest-smaller
 loop-rest-smaller c =
-    let w = c in
-    let q = w in
-    members_less q.loop-rest.rest _ _ q.smallest-v.ensures w.without_smallest-others.ensures
+    members_less c.loop-rest.rest _ _ c.smallest-v.ensures c.without_smallest-others.ensures
 
 pub loop-rest-preserved : goal.loop-rest-preserved
 unfolding holds
 loop-rest-preserved c =
-    let w = c in
-    let q = w in
-    let l = q.loop-rest in
-    let a = q.args in
-    joined_next a.rows.now a.row a.jobs a.joins.now l.whole l.rest l.joins l.invariant _ q.smallest-v.ensures _ _
-    c.join-more.ensures.by_index w.without_smallest-others.ensures _ c.join-more.ensures.joins_after
+    let l = c.loop-rest in
+    let a = c.args in
+    joined_next a.rows.now a.row a.jobs a.joins.now l.whole l.rest l.joins l.invariant _ c.smallest-v.ensures _ _
+    c.join-more.ensures.by_index c.without_smallest-others.ensures _ c.join-more.ensures.joins_after
 
 pub returns : goal.returns
 returns c =

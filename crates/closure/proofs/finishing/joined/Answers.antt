@@ -6,33 +6,26 @@ use Rattle.closure.proofs.finishing.joined.Goals as goal
 
 pub join_each-part-requires : goal.join_each-part-requires
 join_each-part-requires c =
-    let l = c in
-    omega (arith, low_count l.args.row l.low.result l.low.ensures, l.requires)
+    omega (arith, low_count c.args.row c.low.result c.low.ensures, c.requires)
 
 pub join_each-requires : goal.join_each-requires
 join_each-requires c =
-    let h = c in
-    let e = h in
-    let l = e in
     omega (
       arith,
-      halves_count l.args.row l.low.result l.low.ensures h.high.result h.high.ensures,
-      e.join_each-part.ensures.joins_after,
-      l.requires,
+      halves_count c.args.row c.low.result c.low.ensures c.high.result c.high.ensures,
+      c.join_each-part.ensures.joins_after,
+      c.requires,
     )
 
 pub returns : goal.returns
 returns c =
-    let h = c in
-    let e = h in
-    let l = e in
-    let a = l.args in record {
-      by_index = halves_join a.row l.low.result l.low.ensures h.high.result h.high.ensures a.rows.now e.join_each-part.result c.join_each.result
-          e.join_each-part.ensures.by_index c.join_each.ensures.by_index;
+    let a = c.args in record {
+      by_index = halves_join a.row c.low.result c.low.ensures c.high.result c.high.ensures a.rows.now c.join_each-part.result c.join_each.result
+          c.join_each-part.ensures.by_index c.join_each.ensures.by_index;
       joins_after = omega (
         arith,
-        halves_count a.row l.low.result l.low.ensures h.high.result h.high.ensures,
-        e.join_each-part.ensures.joins_after,
+        halves_count a.row c.low.result c.low.ensures c.high.result c.high.ensures,
+        c.join_each-part.ensures.joins_after,
         c.join_each.ensures.joins_after,
       );
     }

@@ -7,62 +7,53 @@ use Rattle.closure.proofs.passes.pass.Goals as goal
 
 pub returns-then-not-inhabited : goal.returns-then-not-inhabited
 returns-then-not-inhabited c =
-    let s = c in
-    let low = s.args.low.now in
-    let high = s.args.high.now in
-    let k = s.args.k in
+    let low = c.args.low.now in
+    let high = c.args.high.now in
+    let k = c.args.k in
     let idle = sym c.inhabited.ensures ∙ c.if-not-inhabited.true in record {
-      low_len = (s.requires.n_bound.2, s.requires.n_bound.3);
+      low_len = (c.requires.n_bound.2, c.requires.n_bound.3);
       by_index_2 = step_idle low high k idle;
-      value = joins_idle low high k idle s.args.n;
+      value = joins_idle low high k idle c.args.n;
     }
 
 pub spread-requires : goal.spread-requires
 spread-requires c =
-    let i = c in
-    let s = i in
-    let low = s.args.low.now in
-    let high = s.args.high.now in
-    let k = s.args.k in record {
-      n_bound = (search rules, search rules, s.requires.n_bound.2, s.requires.n_bound.3);
-      by_index = step_clear low high k low k (in_low low high k i.if-k-lt64.true) s.args.n s.requires.by_index;
+    let low = c.args.low.now in
+    let high = c.args.high.now in
+    let k = c.args.k in record {
+      n_bound = (search rules, search rules, c.requires.n_bound.2, c.requires.n_bound.3);
+      by_index = step_clear low high k low k (in_low low high k c.if-k-lt64.true) c.args.n c.requires.by_index;
     }
 
 pub spread-requires-else-k-lt64 : goal.spread-requires-else-k-lt64
 spread-requires-else-k-lt64 c =
-    let i = c in
-    let s = i in
-    let low = s.args.low.now in
-    let high = s.args.high.now in
-    let k = s.args.k in record {
-      n_bound = (search rules, search rules, s.requires.n_bound.3, s.requires.n_bound.2);
-      by_index = step_clear low high k high (k - 64) (in_high low high k i.if-k-lt64.false (search rules)) s.args.n s.requires.by_index;
+    let low = c.args.low.now in
+    let high = c.args.high.now in
+    let k = c.args.k in record {
+      n_bound = (search rules, search rules, c.requires.n_bound.3, c.requires.n_bound.2);
+      by_index = step_clear low high k high (k - 64) (in_high low high k c.if-k-lt64.false (search rules)) c.args.n c.requires.by_index;
     }
 
 pub returns-then-k-lt64 : goal.returns-then-k-lt64
 returns-then-k-lt64 c =
-    let i = c in
-    let s = i in
-    let low = s.args.low.now in
-    let high = s.args.high.now in
-    let k = s.args.k in
-    let same = in_low low high k i.if-k-lt64.true in
+    let low = c.args.low.now in
+    let high = c.args.high.now in
+    let k = c.args.k in
+    let same = in_low low high k c.if-k-lt64.true in
     let e = c.spread.ensures in record {
       low_len = e.col_len;
       by_index_2 = step_joined low high k low k same _ _ e.joins e.joins_2;
-      value = joins_busy low high k low k same s.args.n s.requires.by_index (sym c.inhabited.ensures ∙ c.if-not-inhabited.false) _ e.value;
+      value = joins_busy low high k low k same c.args.n c.requires.by_index (sym c.inhabited.ensures ∙ c.if-not-inhabited.false) _ e.value;
     }
 
 pub returns-else-k-lt64 : goal.returns-else-k-lt64
 returns-else-k-lt64 c =
-    let i = c in
-    let s = i in
-    let low = s.args.low.now in
-    let high = s.args.high.now in
-    let k = s.args.k in
-    let same = in_high low high k i.if-k-lt64.false (search rules) in
+    let low = c.args.low.now in
+    let high = c.args.high.now in
+    let k = c.args.k in
+    let same = in_high low high k c.if-k-lt64.false (search rules) in
     let e = c.spread-else-k-lt64.ensures in record {
       low_len = (e.col_len.1, e.col_len.0);
       by_index_2 = step_joined low high k high (k - 64) same _ _ e.joins_2 e.joins;
-      value = joins_busy low high k high (k - 64) same s.args.n s.requires.by_index (sym c.inhabited.ensures ∙ c.if-not-inhabited.false) _ e.value;
+      value = joins_busy low high k high (k - 64) same c.args.n c.requires.by_index (sym c.inhabited.ensures ∙ c.if-not-inhabited.false) _ e.value;
     }

@@ -44,15 +44,11 @@ overflow_add-count c =
       joins_small n (columns l.low l.high) l.k,
     )
 
-pub loop-k-smaller : goal.loop-k-smaller
-loop-k-smaller c = omega arith
-
 pub loop-k-preserved : goal.loop-k-preserved
 loop-k-preserved c =
     let l = c.loop-k in
-    let d = c in
-    let n = d.args.n in
-    let r = columns d.split.new.low d.split.new.high in
+    let n = c.args.n in
+    let r = columns c.split.new.low c.split.new.high in
     elim c.if-contains.branch [
       | then-contains w ↦
           let e = w.pass-more.ensures in
@@ -79,11 +75,9 @@ table-requires c =
 
 pub returns : goal.returns
 returns c =
-    let e = c in
-    let l = e.loop-k in
-    let d = e in
-    let t = d.args.t.now in
-    let same = d.split.ensures.by_index_2 in record {
-      by_index = λ u v. c.table.ensures u v ∙ closed_end _ _ l.low l.high l.count l.k l.invariant e.loop-k-test.false t same u v;
-      joins_after = joins_end _ _ l.low l.high l.count l.k l.invariant e.loop-k-test.false t same;
+    let l = c.loop-k in
+    let t = c.args.t.now in
+    let same = c.split.ensures.by_index_2 in record {
+      by_index = λ u v. c.table.ensures u v ∙ closed_end _ _ l.low l.high l.count l.k l.invariant c.loop-k-test.false t same u v;
+      joins_after = joins_end _ _ l.low l.high l.count l.k l.invariant c.loop-k-test.false t same;
     }

@@ -8,18 +8,13 @@ use Rattle.closure.proofs.passes.range.Goals as goal
 pub loop-u-init : goal.loop-u-init
 loop-u-init c = ranged_none (holds c.args.t.now) c.args.n
 
-pub loop-u-smaller : goal.loop-u-smaller
-loop-u-smaller c = omega arith
-
 pub loop-u-preserved : goal.loop-u-preserved
 unfolding holds
 loop-u-preserved c =
     let l = c.loop-u in
-    let s = c in
-    ranged_next (holds s.args.t.now) s.args.n l.jobs l.u l.invariant (search rules) c.union-more.result c.union-more.ensures
+    ranged_next (holds c.args.t.now) c.args.n l.jobs l.u l.invariant (search rules) c.union-more.result c.union-more.ensures
 
 pub returns : goal.returns
 returns c =
     let l = c.loop-u in
-    let s = c in
-    ranged_end (holds s.args.t.now) s.args.n l.jobs l.u l.invariant c.loop-u-test.false
+    ranged_end (holds c.args.t.now) c.args.n l.jobs l.u l.invariant c.loop-u-test.false

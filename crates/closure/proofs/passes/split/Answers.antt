@@ -11,9 +11,6 @@ loop-i-init c =
     let t = a.t.now in
     (worked_none (Word t 0) a.low.now a.n c.requires.n_bound.1, worked_none (Word t 1) a.high.now a.n c.requires.n_bound.2)
 
-pub loop-i-smaller : goal.loop-i-smaller
-loop-i-smaller c = omega arith
-
 pub loop-i-preserved : goal.loop-i-preserved
 loop-i-preserved c =
     let l = c.loop-i in
@@ -26,9 +23,8 @@ loop-i-preserved c =
 pub returns : goal.returns
 returns c =
     let l = c.loop-i in
-    let s = c in
-    let a = s.args in record {
+    let a = c.args in record {
       low_len = (l.invariant.0.rows, l.invariant.1.rows);
-      by_index_2 = columns_of a.t.now a.n l.i a.low.now a.high.now l.low l.high l.invariant.0 l.invariant.1 c.loop-i-test.false s.requires.n_bound.0
-          s.requires.inside s.requires.by_index;
+      by_index_2 = columns_of a.t.now a.n l.i a.low.now a.high.now l.low l.high l.invariant.0 l.invariant.1 c.loop-i-test.false c.requires.n_bound.0
+          c.requires.inside c.requires.by_index;
     }

@@ -34,9 +34,6 @@ overflow_add-joins c =
     let g = c.args in
     omega (arith, counts (goal.at.overflow_add-joins c).In-loop-i, tally_small g.col.now g.at (l.i + 1))
 
-pub loop-i-smaller : goal.loop-i-smaller
-loop-i-smaller c = omega arith
-
 pub loop-i-preserved : goal.loop-i-preserved
 loop-i-preserved c =
     let l = c.loop-i in
@@ -52,12 +49,11 @@ loop-i-preserved c =
 pub returns : goal.returns
 returns c =
     let l = c.loop-i in
-    let s = c in
-    let g = s.args in
+    let g = c.args in
     let col = g.col.now in
     let e : l.i ≡ g.n = omega (arith, l.invariant.0.within) in record {
       col_len = (l.invariant.0.rows, l.invariant.1.rows);
-      joins = grown_end col g.at g.a col g.n l.col l.i l.invariant.0 c.loop-i-test.false s.requires.by_index;
-      joins_2 = grown_end col g.at g.b g.other.now g.n l.other l.i l.invariant.1 c.loop-i-test.false s.requires.by_index;
+      joins = grown_end col g.at g.a col g.n l.col l.i l.invariant.0 c.loop-i-test.false c.requires.by_index;
+      joins_2 = grown_end col g.at g.b g.other.now g.n l.other l.i l.invariant.1 c.loop-i-test.false c.requires.by_index;
       value = l.invariant.2 ∙ ap (tally col g.at) e;
     }

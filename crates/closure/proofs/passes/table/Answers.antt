@@ -9,18 +9,13 @@ use Rattle.closure.proofs.passes.table.Goals as goal
 pub loop-i-init : goal.loop-i-init
 loop-i-init c = filled_none (columns c.args.low.now c.args.high.now) c.args.n
 
-pub loop-i-smaller : goal.loop-i-smaller
-loop-i-smaller c = omega arith
-
 pub loop-i-preserved : goal.loop-i-preserved
 unfolding columns
 loop-i-preserved c =
     let l = c.loop-i in
-    let s = c in
-    filled_next (columns s.args.low.now s.args.high.now) s.args.n l.r l.i l.invariant (search rules) (search rules) _ (λ v. refl)
+    filled_next (columns c.args.low.now c.args.high.now) c.args.n l.r l.i l.invariant (search rules) (search rules) _ (λ v. refl)
 
 pub returns : goal.returns
 returns c =
     let l = c.loop-i in
-    let s = c in
-    filled_end (columns s.args.low.now s.args.high.now) s.args.n l.r l.i l.invariant c.loop-i-test.false s.requires.by_index
+    filled_end (columns c.args.low.now c.args.high.now) c.args.n l.r l.i l.invariant c.loop-i-test.false c.requires.by_index

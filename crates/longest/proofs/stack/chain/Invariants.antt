@@ -7,7 +7,8 @@ use Rattle.longest.proofs.stack.chain.Given as goal
 
 abbrev pub invariant-loop-k : goal.invariant-loop-k
 invariant-loop-k l =
-    (rs : List WorkRun) (b : Beside rs l.top l.end (runs l.totals l.firsts l.lasts l.initial.next)) → Chained rs l.top l.end (runs l.totals l.firsts l.lasts l.initial.next) b l.next l.total l.first l.k
+    (rs : List WorkRun) (b : Beside rs l.top l.end (runs l.totals l.firsts l.lasts l.initial.next))
+    → Chained rs l.top l.end (runs l.totals l.firsts l.lasts l.initial.next) b l.next l.total l.first l.k
 
 abbrev pub decreases-loop-k : goal.decreases-loop-k
 decreases-loop-k l = l.k

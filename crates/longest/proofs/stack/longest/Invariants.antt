@@ -9,7 +9,8 @@ use Rattle.longest.proofs.stack.longest.Given as goal
 
 abbrev pub invariant-loop-i : goal.invariant-loop-i
 invariant-loop-i l =
-    (l.i ≤ l.count) × ((t : Tree) → Listed t l.tokens l.count → Stacked (hours_of l.hours) (pending l.i (spells t)) l.top (runs l.totals l.firsts l.lasts l.next))
+    (l.i ≤ l.count) × ((t : Tree) → Listed t l.tokens l.count → Stacked (hours_of l.hours) (pending l.i (spells t)) l.top
+    (runs l.totals l.firsts l.lasts l.next))
 
 abbrev pub decreases-loop-i : goal.decreases-loop-i
 decreases-loop-i l = l.i

@@ -8,14 +8,11 @@ use Rattle.preview.proofs.ends.first_loop.Goals as goal
 
 pub first_of-requires : goal.first_of-requires
 first_of-requires c =
-    let s = c in
-    let last = s.args.last.now in (
-      omega (arith, s.well_formed),
-      λ k e. omega (arith, s.well_formed, pairs_length last, place_below loop (pairs last) (sym c.first_loop-2.ensures ∙ e)),
+    let last = c.args.last.now in (
+      omega (arith, c.well_formed),
+      λ k e. omega (arith, c.well_formed, pairs_length last, place_below loop (pairs last) (sym c.first_loop-2.ensures ∙ e)),
     )
 
 pub returns : goal.returns
 returns c =
-    let q = c in
-    let s = q in
-    places_append loop s.args.list.now s.args.last.now q.first_loop.ensures q.first_loop-2.ensures c.first_of.ensures
+    places_append loop c.args.list.now c.args.last.now c.first_loop.ensures c.first_loop-2.ensures c.first_of.ensures

@@ -8,14 +8,11 @@ use Rattle.preview.proofs.ends.first_outside.Goals as goal
 
 pub first_of-requires : goal.first_of-requires
 first_of-requires c =
-    let s = c in
-    let last = s.args.last.now in (
-      omega (arith, s.well_formed),
-      λ k e. omega (arith, s.well_formed, pairs_length last, place_below (outside _) (pairs last) (sym c.first_outside-2.ensures ∙ e)),
+    let last = c.args.last.now in (
+      omega (arith, c.well_formed),
+      λ k e. omega (arith, c.well_formed, pairs_length last, place_below (outside _) (pairs last) (sym c.first_outside-2.ensures ∙ e)),
     )
 
 pub returns : goal.returns
 returns c =
-    let q = c in
-    let s = q in
-    places_append (outside _) s.args.list.now s.args.last.now q.first_outside.ensures q.first_outside-2.ensures c.first_of.ensures
+    places_append (outside _) c.args.list.now c.args.last.now c.first_outside.ensures c.first_outside-2.ensures c.first_of.ensures

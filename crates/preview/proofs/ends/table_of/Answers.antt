@@ -19,16 +19,14 @@ jobs : (c : goal.In-loop-k)
     → (get_or c.args.last.now (2 * c.loop-k.k) 0 < 128)
     × (get_or c.args.last.now (2 * c.loop-k.k + 1) 0 < 128)
 jobs c =
-    let s = c in
-    s.requires _ (Memᴰ.append_right (pairs s.args.list.now) (pairs_at s.args.last.now c.loop-k.k (omega (arith, c.loop-k-test.true))))
+    c.requires _ (Memᴰ.append_right (pairs c.args.list.now) (pairs_at c.args.last.now c.loop-k.k (omega (arith, c.loop-k-test.true))))
 
 pub table_of-t-requires : goal.table_of-t-requires
 table_of-t-requires c = λ a m. c.requires a (Memᴰ.append_left (pairs c.args.last.now) m)
 
 pub loop-k-init : goal.loop-k-init
 loop-k-init c =
-    let s = c in
-    added_none s.args.list.now s.args.last.now c.table_of-t.result (search rules) c.table_of-t.ensures
+    added_none c.args.list.now c.args.last.now c.table_of-t.result (search rules) c.table_of-t.ensures
 
 pub overflow_cast-u : goal.overflow_cast-u
 overflow_cast-u c = omega (arith, jobs (goal.at.overflow_cast-u c).In-loop-k)
@@ -51,19 +49,14 @@ offset_bounds-t-u-in-loop-k c = omega (arith, jobs (goal.at.offset_bounds-t-u-in
 pub bounds-t-u-in-loop-k : goal.bounds-t-u-in-loop-k
 bounds-t-u-in-loop-k c = omega (arith, jobs (goal.at.bounds-t-u-in-loop-k c).In-loop-k)
 
-pub loop-k-smaller : goal.loop-k-smaller
-loop-k-smaller c = omega arith
-
 pub loop-k-preserved : goal.loop-k-preserved
 loop-k-preserved c =
-    let i = c in
-    let s = i in
-    let l = i.loop-k in
-    Added-next s.args.list.now s.args.last.now l.t l.k l.invariant (omega (arith, i.loop-k-test.true)) (jobs (goal.at.loop-k-preserved c).In-loop-k).0 c.union-row.result
-    (λ v. c.union-row.ensures v ∙ ap (λ b. has (get_or l.t (get_or s.args.last.now (2 * l.k) 0) []) v || b) (c.only.ensures v))
+    let l = c.loop-k in
+    Added-next c.args.list.now c.args.last.now l.t l.k l.invariant (omega (arith, c.loop-k-test.true)) (jobs (goal.at.loop-k-preserved c).In-loop-k).0
+    c.union-row.result
+    (λ v. c.union-row.ensures v ∙ ap (λ b. has (get_or l.t (get_or c.args.last.now (2 * l.k) 0) []) v || b) (c.only.ensures v))
 
 pub returns : goal.returns
 returns c =
-    let s = c in
     let l = c.loop-k in
-    added_end s.args.list.now s.args.last.now l.t l.k l.invariant c.loop-k-test.false
+    added_end c.args.list.now c.args.last.now l.t l.k l.invariant c.loop-k-test.false

@@ -14,16 +14,11 @@ returns-then-n-gt128 c = told_refused (count_above _ _ _ _ c.if-n-gt128.true)
 
 pub returns-then-list-last-gt4096 : goal.returns-then-list-last-gt4096
 returns-then-list-last-gt4096 c =
-    let n = c in
-    let s = n in
-    let size = pairs_count s.args.list.now s.args.last.now in
-    told_refused (count_many _ _ _ _ (some_jobs n.if-n-eq0.false) n.if-n-gt128.false (omega (arith, size, c.if-list-last-gt4096.true)))
+    let size = pairs_count c.args.list.now c.args.last.now in
+    told_refused (count_many _ _ _ _ (some_jobs c.if-n-eq0.false) c.if-n-gt128.false (omega (arith, size, c.if-list-last-gt4096.true)))
 
 pub returns : goal.returns
 returns c =
-    let few = c in
-    let n = few in
-    let s = n in
-    let size = pairs_count s.args.list.now s.args.last.now in
+    let size = pairs_count c.args.list.now c.args.last.now in
     c.of_hours.ensures
-    ∙ same_answer (sym (count_timed _ _ _ _ (some_jobs n.if-n-eq0.false) n.if-n-gt128.false (omega (arith, size, few.if-list-last-gt4096.false))))
+    ∙ same_answer (sym (count_timed _ _ _ _ (some_jobs c.if-n-eq0.false) c.if-n-gt128.false (omega (arith, size, c.if-list-last-gt4096.false))))

@@ -11,19 +11,16 @@ returns-then-hours-n c = told_refused (timed_12 _ _ _ _ c.if-hours-n.true)
 
 pub of_lists-requires : goal.of_lists-requires
 of_lists-requires c =
-    let test = c in
-    let s = test in record {
-      n_nonzero = s.requires;
-      hours_len = (test.if-hours-n.false, large_below s.args.hours.now (sym test.first_large-large.ensures ∙ ap found c.in-Nothing.is));
+    record {
+      n_nonzero = c.requires;
+      hours_len = (c.if-hours-n.false, large_below c.args.hours.now (sym c.first_large-large.ensures ∙ ap found c.in-Nothing.is));
     }
 
 pub returns-in-At : goal.returns-in-At
 returns-in-At c =
-    let test = c in
-    told_refused (timed_13 _ _ _ _ _ test.if-hours-n.false (sym test.first_large-large.ensures ∙ ap found c.in-At.is))
+    told_refused (timed_13 _ _ _ _ _ c.if-hours-n.false (sym c.first_large-large.ensures ∙ ap found c.in-At.is))
 
 pub returns-in-Nothing : goal.returns-in-Nothing
 returns-in-Nothing c =
-    let test = c in
-    let none_here = sym test.first_large-large.ensures ∙ ap found c.in-Nothing.is in
-    c.of_lists.ensures ∙ same_answer (sym (timed_listed _ _ _ _ test.if-hours-n.false none_here))
+    let none_here = sym c.first_large-large.ensures ∙ ap found c.in-Nothing.is in
+    c.of_lists.ensures ∙ same_answer (sym (timed_listed _ _ _ _ c.if-hours-n.false none_here))

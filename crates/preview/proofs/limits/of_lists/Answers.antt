@@ -7,14 +7,12 @@ use Rattle.preview.proofs.limits.of_lists.Goals as goal
 
 pub of_named-requires : goal.of_named-requires
 of_named-requires c =
-    let test = c in
-    let s = test in record {
-      n_nonzero = s.requires.n_nonzero;
-      hours_len = s.requires.hours_len;
-      last_value = sym test.first_outside-far.ensures ∙ ap found c.in-Nothing.is;
+    record {
+      n_nonzero = c.requires.n_nonzero;
+      hours_len = c.requires.hours_len;
+      last_value = sym c.first_outside-far.ensures ∙ ap found c.in-Nothing.is;
     }
 
 pub returns-in-At : goal.returns-in-At
 returns-in-At c =
-    let test = c in
-    told_refused (listed_5 _ _ _ _ _ (sym test.first_outside-far.ensures ∙ ap found c.in-At.is))
+    told_refused (listed_5 _ _ _ _ _ (sym c.first_outside-far.ensures ∙ ap found c.in-At.is))

@@ -9,21 +9,17 @@ use Rattle.preview.proofs.limits.of_named.Goals as goal
 
 pub of_arcs-requires : goal.of_arcs-requires
 of_arcs-requires c =
-    let s = c in record {
-      n_nonzero = s.requires.n_nonzero;
-      within = outside_none s.args.n (pairs s.args.list.now ++ pairs s.args.last.now) s.requires.last_value;
-      hours_len = s.requires.hours_len;
+    record {
+      n_nonzero = c.requires.n_nonzero;
+      within = outside_none c.args.n (pairs c.args.list.now ++ pairs c.args.last.now) c.requires.last_value;
+      hours_len = c.requires.hours_len;
     }
 
 pub returns-in-At : goal.returns-in-At
 returns-in-At c =
-    let test = c in
-    let s = test in
-    told_refused (listed_6 _ _ _ _ _ s.requires.last_value (sym test.first_loop-own.ensures ∙ ap found c.in-At.is))
+    told_refused (listed_6 _ _ _ _ _ c.requires.last_value (sym c.first_loop-own.ensures ∙ ap found c.in-At.is))
 
 pub returns-in-Nothing : goal.returns-in-Nothing
 returns-in-Nothing c =
-    let test = c in
-    let s = test in
-    let none_here = sym test.first_loop-own.ensures ∙ ap found c.in-Nothing.is in
-    c.of_arcs.ensures ∙ same_answer (sym (listed_order _ _ _ _ s.requires.last_value none_here))
+    let none_here = sym c.first_loop-own.ensures ∙ ap found c.in-Nothing.is in
+    c.of_arcs.ensures ∙ same_answer (sym (listed_order _ _ _ _ c.requires.last_value none_here))

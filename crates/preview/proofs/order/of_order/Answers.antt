@@ -16,16 +16,16 @@ use Rattle.preview.proofs.Answering.{told_accepted}
 use Rattle.preview.proofs.order.of_order.Goals as goal
 
 pub padded-all-requires : goal.padded-all-requires
-padded-all-requires c = let s = c in omega (arith, s.requires.hours_len.0, s.requires.n_nonzero.1)
+padded-all-requires c = omega (arith, c.requires.hours_len.0, c.requires.n_nonzero.1)
 
 pub write_record-written-requires : goal.write_record-written-requires
 write_record-written-requires c =
-    let s = c in record {
-      n_nonzero = s.requires.n_nonzero;
-      strict = s.requires.strict;
-      inside = s.requires.inside;
+    record {
+      n_nonzero = c.requires.n_nonzero;
+      strict = c.requires.strict;
+      inside = c.requires.inside;
       by_index = c.transposed-under.ensures;
-      all_below = all_below_lem _ c.padded-all.ensures s.requires.hours_len.1;
+      all_below = all_below_lem _ c.padded-all.ensures c.requires.hours_len.1;
     }
 
 pub returns-then-not-written : goal.returns-then-not-written

@@ -12,25 +12,16 @@ returns-then-not-some_loop c = nowhere loop (pairs c.args.arcs.now) (sym c.some_
 pub loop-i-init : goal.loop-i-init
 loop-i-init c = searched_none loop c.args.arcs.now
 
-pub overflow_add-i : goal.overflow_add-i
-overflow_add-i c = omega arith
-
 pub returns-then-arcs-i : goal.returns-then-arcs-i
 unfolding loop
 returns-then-arcs-i c =
-    let q = c in
-    searched_hit loop q.args.arcs.now q.loop-i.i q.loop-i.invariant (omega arith) (eq-eqb _ _ c.if-arcs-i.true)
-
-pub loop-i-smaller : goal.loop-i-smaller
-loop-i-smaller c = omega arith
+    searched_hit loop c.args.arcs.now c.loop-i.i c.loop-i.invariant (omega arith) (eq-eqb _ _ c.if-arcs-i.true)
 
 pub loop-i-preserved : goal.loop-i-preserved
 unfolding loop
 loop-i-preserved c =
-    let q = c in
-    searched_next loop q.args.arcs.now q.loop-i.i q.loop-i.invariant (omega arith) (ne_eqb _ _ c.if-arcs-i.false)
+    searched_next loop c.args.arcs.now c.loop-i.i c.loop-i.invariant (omega arith) (ne_eqb _ _ c.if-arcs-i.false)
 
 pub returns : goal.returns
 returns c =
-    let q = c in
-    searched_end loop q.args.arcs.now q.loop-i.i q.loop-i.invariant (omega arith)
+    searched_end loop c.args.arcs.now c.loop-i.i c.loop-i.invariant (omega arith)

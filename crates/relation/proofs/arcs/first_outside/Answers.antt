@@ -17,33 +17,24 @@ returns-then-greatest-n c =
 pub loop-i-init : goal.loop-i-init
 loop-i-init c = searched_none (outside c.args.n) c.args.arcs.now
 
-pub overflow_add-i : goal.overflow_add-i
-overflow_add-i c = omega arith
-
 pub returns-then-arcs-i : goal.returns-then-arcs-i
 unfolding outside
 returns-then-arcs-i c =
-    let l = c in
-    let a = l.args in
-    searched_hit (outside a.n) a.arcs.now l.loop-i.i l.loop-i.invariant (omega arith)
+    let a = c.args in
+    searched_hit (outside a.n) a.arcs.now c.loop-i.i c.loop-i.invariant (omega arith)
     (elim c.then-arcs-i.branch [
       | then-arcs-i-via-then-arcs-i w ↦ or_left _ _ (le-leb a.n _ w.if-arcs-i.true)
-      | then-arcs-i-via-else-arcs-i+then-arcs-i-2 w ↦ or_right (leb a.n (get_or a.arcs.now l.loop-i.i 0)) _ (le-leb a.n _ w.if-arcs-i-2.true)
+      | then-arcs-i-via-else-arcs-i+then-arcs-i-2 w ↦ or_right (leb a.n (get_or a.arcs.now c.loop-i.i 0)) _ (le-leb a.n _ w.if-arcs-i-2.true)
     ])
-
-pub loop-i-smaller : goal.loop-i-smaller
-loop-i-smaller c = omega arith
 
 pub loop-i-preserved : goal.loop-i-preserved
 unfolding outside
 loop-i-preserved c =
-    let l = c in
-    let a = l.args in
-    searched_next (outside a.n) a.arcs.now l.loop-i.i l.loop-i.invariant (omega arith)
+    let a = c.args in
+    searched_next (outside a.n) a.arcs.now c.loop-i.i c.loop-i.invariant (omega arith)
     (rw (lt-leb a.n _ c.if-arcs-i.false) (lt-leb a.n _ c.if-arcs-i-2.false))
 
 pub returns : goal.returns
 returns c =
-    let l = c in
-    let a = l.args in
-    searched_end (outside a.n) a.arcs.now l.loop-i.i l.loop-i.invariant (omega arith)
+    let a = c.args in
+    searched_end (outside a.n) a.arcs.now c.loop-i.i c.loop-i.invariant (omega arith)

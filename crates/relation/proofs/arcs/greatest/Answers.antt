@@ -8,9 +8,6 @@ use Rattle.relation.proofs.arcs.greatest.Goals.{then-list-i, else-list-i}
 pub loop-i-init : goal.loop-i-init
 loop-i-init c = bounded_none c.args.list.now
 
-pub loop-i-smaller : goal.loop-i-smaller
-loop-i-smaller c = omega arith
-
 pub loop-i-preserved : goal.loop-i-preserved
 loop-i-preserved c =
     let l = c.loop-i in

@@ -40,12 +40,11 @@ bounds-t-v-2 c = omega (arith, jobs (goal.at.bounds-t-v-2 c).Start)
 
 pub returns : goal.returns
 returns c =
-    let s = c in
-    let t = s.args.t.now in
-    let u = get_or s.args.arcs.now (2 * s.args.k) 0 in
-    let v = get_or s.args.arcs.now (2 * s.args.k + 1) 0 in
-    let two = s.requires.by_index u (jobs (goal.at.returns c).Start).0 in record {
-      by_index_2 = words_set t s.requires.by_index u (jobs (goal.at.returns c).Start).0 _ (length-set (get_or t u []) (v / 64) _ ∙ two);
-      by_index_3 = put_row s.args.arcs.now t s.args.k _ (words_row t s.requires.by_index u (jobs (goal.at.returns c).Start).0)
+    let t = c.args.t.now in
+    let u = get_or c.args.arcs.now (2 * c.args.k) 0 in
+    let v = get_or c.args.arcs.now (2 * c.args.k + 1) 0 in
+    let two = c.requires.by_index u (jobs (goal.at.returns c).Start).0 in record {
+      by_index_2 = words_set t c.requires.by_index u (jobs (goal.at.returns c).Start).0 _ (length-set (get_or t u []) (v / 64) _ ∙ two);
+      by_index_3 = put_row c.args.arcs.now t c.args.k _ (words_row t c.requires.by_index u (jobs (goal.at.returns c).Start).0)
           (λ x. rw (one_shifted (v % 64) (omega arith)) (put_in (get_or t u []) v two (jobs (goal.at.returns c).Start).1 x));
     }

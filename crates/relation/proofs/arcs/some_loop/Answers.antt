@@ -9,12 +9,6 @@ use Rattle.relation.proofs.arcs.some_loop.Goals.{then-arcs-i, else-arcs-i}
 pub loop-i-init : goal.loop-i-init
 loop-i-init c = noticed_none loop c.args.arcs.now
 
-pub overflow_add-i : goal.overflow_add-i
-overflow_add-i c = omega arith
-
-pub loop-i-smaller : goal.loop-i-smaller
-loop-i-smaller c = omega arith
-
 pub loop-i-preserved : goal.loop-i-preserved
 unfolding loop
 loop-i-preserved c =

@@ -15,18 +15,13 @@ loop-u-init c = looked_none (at c.args.t) c.args.n
 pub returns-then-contains : goal.returns-then-contains
 unfolding first_on_cycle_of holds only_if
 returns-then-contains c =
-    let l = c in
-    looked_hit (at l.args.t) l.args.n l.loop-u.u l.loop-u.invariant (search rules)
+    looked_hit (at c.args.t) c.args.n c.loop-u.u c.loop-u.invariant (search rules)
     (rw (sym c.contains.ensures ∙ c.if-contains.true))
-
-pub loop-u-smaller : goal.loop-u-smaller
-loop-u-smaller c = omega arith
 
 pub loop-u-preserved : goal.loop-u-preserved
 unfolding first_on_cycle_of holds only_if
 loop-u-preserved c =
-    let l = c in
-    looked_next (at l.args.t) l.args.n l.loop-u.u l.loop-u.invariant (search rules)
+    looked_next (at c.args.t) c.args.n c.loop-u.u c.loop-u.invariant (search rules)
     (rw (sym c.contains.ensures ∙ c.if-contains.false))
 
 pub returns : goal.returns

@@ -6,9 +6,8 @@ use Rattle.relation.proofs.order.transposed.Goals as goal
 
 pub loop-e-init : goal.loop-e-init
 loop-e-init c =
-    let s = c in
     let w = c.digits-w.result in
-    turned_none s.args.t w (search rules) (until_inside s.args.n w s.args.t c.digits-w.ensures.1 s.requires.inside)
+    turned_none c.args.t w (search rules) (until_inside c.args.n w c.args.t c.digits-w.ensures.1 c.requires.inside)
 
 pub step-requires : goal.step-requires
 step-requires c =
@@ -17,18 +16,13 @@ step-requires c =
       until = l.invariant.empty;
     }
 
-pub loop-e-smaller : goal.loop-e-smaller
-loop-e-smaller c = omega arith
-
 pub loop-e-preserved : goal.loop-e-preserved
 loop-e-preserved c =
     let l = c.loop-e in
-    let d = c in
-    turned_step d.args.t d.digits-w.result l.r l.e l.invariant _ (search rules) c.step.ensures.t_len c.step.ensures.by_index
+    turned_step c.args.t c.digits-w.result l.r l.e l.invariant _ (search rules) c.step.ensures.t_len c.step.ensures.by_index
 
 pub returns : goal.returns
 returns c =
     let l = c.loop-e in
-    let d = c in
-    let a = d.args in
-    turned_end a.t d.digits-w.result l.r l.e l.invariant a.n c.loop-e-test.false d.digits-w.ensures.1 d.requires.inside
+    let a = c.args in
+    turned_end a.t c.digits-w.result l.r l.e l.invariant a.n c.loop-e-test.false c.digits-w.ensures.1 c.requires.inside

@@ -8,9 +8,8 @@ use Rattle.relation.proofs.reduction.beyond.Goals as goal
 pub loop-rest-init : goal.loop-rest-init
 unfolding holds
 loop-rest-init c =
-    let s = c in
-    Swept-none s.args.n (holds s.args.t.now) s.args.u s.requires.strict s.requires.inside s.requires.n_bound.0 _ _ s.args.dom has_blank
-    s.requires.by_index c.intersection-rest.ensures
+    Swept-none c.args.n (holds c.args.t.now) c.args.u c.requires.strict c.requires.inside c.requires.n_bound.0 _ _ c.args.dom has_blank
+    c.requires.by_index c.intersection-rest.ensures
 
 pub smallest-w-requires : goal.smallest-w-requires
 smallest-w-requires c = sym c.inhabited.ensures ∙ c.loop-rest-test.true
@@ -20,29 +19,22 @@ largest-x-requires c = sym c.inhabited.ensures ∙ c.loop-rest-test.true
 
 pub without_smallest-requires : goal.without_smallest-requires
 without_smallest-requires c =
-    let q = c in
-    sym q.inhabited.ensures ∙ q.loop-rest-test.true
+    sym c.inhabited.ensures ∙ c.loop-rest-test.true
 
 pub loop-rest-smaller : goal.loop-rest-smaller
 loop-rest-smaller c =
-    let q = c in
-    swept_less q.loop-rest.rest _ _ _ _ q.smallest-w.ensures c.without_smallest.ensures c.difference-others.ensures
+    swept_less c.loop-rest.rest _ _ _ _ c.smallest-w.ensures c.without_smallest.ensures c.difference-others.ensures
 
 pub loop-rest-preserved : goal.loop-rest-preserved
 unfolding holds
 loop-rest-preserved c =
-    let w = c in
-    let x = w in
-    let q = x in
-    let l = q.loop-rest in
-    let s = q in
-    swept_next s.args.n (holds s.args.t.now) s.args.u s.requires.strict s.requires.inside l.far l.rest l.invariant _ _
-    q.smallest-w.ensures x.largest-x.ensures.member _ _ _ _ w.union.ensures w.union-joined.ensures
-    w.without_smallest.ensures c.difference-others.ensures
+    let l = c.loop-rest in
+    swept_next c.args.n (holds c.args.t.now) c.args.u c.requires.strict c.requires.inside l.far l.rest l.invariant _ _
+    c.smallest-w.ensures c.largest-x.ensures.member _ _ _ _ c.union.ensures c.union-joined.ensures
+    c.without_smallest.ensures c.difference-others.ensures
 
 pub returns : goal.returns
 returns c =
     let l = c.loop-rest in
-    let s = c in
-    swept_end s.args.n (holds s.args.t.now) s.args.u s.requires.strict s.requires.inside l.far l.rest l.invariant s.requires.n_bound.0
+    swept_end c.args.n (holds c.args.t.now) c.args.u c.requires.strict c.requires.inside l.far l.rest l.invariant c.requires.n_bound.0
     (sym c.inhabited.ensures ∙ c.loop-rest-test.false)

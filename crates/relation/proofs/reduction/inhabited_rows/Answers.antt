@@ -9,9 +9,6 @@ use Rattle.relation.proofs.reduction.inhabited_rows.Goals as goal
 pub loop-u-init : goal.loop-u-init
 loop-u-init c = chosen_none (some c.args.t.now) c.args.start c.args.end (search rules)
 
-pub loop-u-smaller : goal.loop-u-smaller
-loop-u-smaller c = omega arith
-
 pub loop-u-preserved : goal.loop-u-preserved
 unfolding holds
 loop-u-preserved c =

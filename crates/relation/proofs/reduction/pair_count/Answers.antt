@@ -10,14 +10,11 @@ loop-u-init c = counted_none c.args.t.now c.args.n
 pub overflow_add-count : goal.overflow_add-count
 overflow_add-count c = omega (arith, c.size-count.ensures.1, c.loop-u.invariant.small)
 
-pub loop-u-smaller : goal.loop-u-smaller
-loop-u-smaller c = omega arith
-
 pub loop-u-preserved : goal.loop-u-preserved
 loop-u-preserved c =
     let l = c.loop-u in
-    let s = c in
-    counted_next s.args.t.now s.args.n l.count l.u l.invariant s.requires.n_bound s.requires.inside (search rules) _ c.size-count.ensures.0 c.size-count.ensures.1
+    counted_next c.args.t.now c.args.n l.count l.u l.invariant c.requires.n_bound c.requires.inside (search rules) _ c.size-count.ensures.0
+    c.size-count.ensures.1
 
 pub returns : goal.returns
 returns c = counted_end c.args.t.now c.args.n _ _ c.loop-u.invariant c.loop-u-test.false

@@ -13,8 +13,7 @@ use Rattle.relation.proofs.reduction.write_each.Goals as goal
 fits : (c : goal.After-smallest-v) → c.loop-rest.k + 1 < length c.loop-rest.area
 fits c =
     let l = c.loop-rest in
-    let s = c in
-    lined_fits s.args.u s.args.at s.args.jobs s.args.area.now l.area l.k l.rest l.invariant _ c.smallest-v.ensures s.requires.1
+    lined_fits c.args.u c.args.at c.args.jobs c.args.area.now l.area l.k l.rest l.invariant _ c.smallest-v.ensures c.requires.1
 
 pub loop-rest-init : goal.loop-rest-init
 loop-rest-init c = lined_none c.args.u c.args.at c.args.jobs c.args.area.now

@@ -5,23 +5,17 @@ use Rattle.relation.proofs.reduction.write_row.Goals as goal
 
 pub write_each-middle-requires : goal.write_each-middle-requires
 write_each-middle-requires c =
-    let s = c in
-    (search rules, halves_fit s.args.u s.args.row _ c.low.ensures s.args.at s.args.area.now s.requires.1)
+    (search rules, halves_fit c.args.u c.args.row _ c.low.ensures c.args.at c.args.area.now c.requires.1)
 
 pub write_each-requires : goal.write_each-requires
-write_each-requires c =
-    let w = c in
-    let s = w in (
-      search rules,
-      halves_fit_later s.args.u s.args.row _ w.low.ensures s.args.at s.args.area.now _ c.high.ensures _ _
-          w.write_each-middle.ensures.value w.write_each-middle.ensures.area_after s.requires.1,
-    )
+write_each-requires c = (
+  search rules,
+  halves_fit_later c.args.u c.args.row _ c.low.ensures c.args.at c.args.area.now _ c.high.ensures _ _
+      c.write_each-middle.ensures.value c.write_each-middle.ensures.area_after c.requires.1,
+)
 
 pub returns : goal.returns
 returns c =
-    let x = c in
-    let w = x in
-    let s = w in
-    let e = halves_end s.args.u s.args.row _ w.low.ensures s.args.at s.args.area.now _ x.high.ensures _ _
-    w.write_each-middle.ensures.value w.write_each-middle.ensures.area_after _ _ x.write_each.ensures.value x.write_each.ensures.area_after in
+    let e = halves_end c.args.u c.args.row _ c.low.ensures c.args.at c.args.area.now _ c.high.ensures _ _
+    c.write_each-middle.ensures.value c.write_each-middle.ensures.area_after _ _ c.write_each.ensures.value c.write_each.ensures.area_after in
     record { value = e.0; area_after = e.1 }

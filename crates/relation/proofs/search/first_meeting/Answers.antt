@@ -21,29 +21,26 @@ bounds-t-c c = c.smallest-c.ensures.small
 pub returns-then-inhabited : goal.returns-then-inhabited
 unfolding holds
 returns-then-inhabited c =
-    let q = c in
-    let l = q.loop-ds in
-    let a = q.args in
-    sought_hit (meeting (holds a.t.now) a.ds) (members a.cs) l.rest l.invariant _ q.smallest-c.ensures
-    (meeting_hit (holds a.t.now) a.ds _ _ q.intersection.ensures (sym c.inhabited-in-loop-ds.ensures ∙ c.if-inhabited.true))
+    let l = c.loop-ds in
+    let a = c.args in
+    sought_hit (meeting (holds a.t.now) a.ds) (members a.cs) l.rest l.invariant _ c.smallest-c.ensures
+    (meeting_hit (holds a.t.now) a.ds _ _ c.intersection.ensures (sym c.inhabited-in-loop-ds.ensures ∙ c.if-inhabited.true))
 
 pub without_smallest-others-requires : goal.without_smallest-others-requires
-without_smallest-others-requires c = let q = c in sym q.inhabited.ensures ∙ q.loop-ds-test.true
+without_smallest-others-requires c = sym c.inhabited.ensures ∙ c.loop-ds-test.true
 
 pub loop-ds-smaller : goal.loop-ds-smaller
 loop-ds-smaller c =
-    let q = c in
-    members_less q.loop-ds.rest _ _ q.smallest-c.ensures c.without_smallest-others.ensures
+    members_less c.loop-ds.rest _ _ c.smallest-c.ensures c.without_smallest-others.ensures
 
 pub loop-ds-preserved : goal.loop-ds-preserved
 unfolding holds
 loop-ds-preserved c =
-    let q = c in
-    let l = q.loop-ds in
-    let a = q.args in
-    sought_next (meeting (holds a.t.now) a.ds) (members a.cs) l.rest l.invariant _ q.smallest-c.ensures _
+    let l = c.loop-ds in
+    let a = c.args in
+    sought_next (meeting (holds a.t.now) a.ds) (members a.cs) l.rest l.invariant _ c.smallest-c.ensures _
     c.without_smallest-others.ensures
-    (meeting_miss (holds a.t.now) a.ds _ _ q.intersection.ensures (sym c.inhabited-in-loop-ds.ensures ∙ c.if-inhabited.false))
+    (meeting_miss (holds a.t.now) a.ds _ _ c.intersection.ensures (sym c.inhabited-in-loop-ds.ensures ∙ c.if-inhabited.false))
 
 pub returns : goal.returns
 returns c =

@@ -21,39 +21,29 @@ loop-a-init c = let a = c.args in looked_none (at_a a.n (holds a.after)) a.n
 
 pub first_unless_twin-found-requires : goal.first_unless_twin-found-requires
 first_unless_twin-found-requires c =
-    let l = c in
-    let k = l in
-    let s = k in record {
-      n_bound = (s.requires.n_bound, search rules);
-      inside = s.requires.inside;
-      by_index = s.requires.by_index;
-      by_index_2 = k.incomparabilities-free.ensures;
-      by_index_3 = λ i m. none_at_lem _ _ i (l.loop-a.invariant.nothing i m);
+    record {
+      n_bound = (c.requires.n_bound, search rules);
+      inside = c.requires.inside;
+      by_index = c.requires.by_index;
+      by_index_2 = c.incomparabilities-free.ensures;
+      by_index_3 = λ i m. none_at_lem _ _ i (c.loop-a.invariant.nothing i m);
     }
 
 pub returns-in_default : goal.returns-in_default
 unfolding first_n_of
 returns-in_default c =
-    let w = c in
-    let l = w.loop-a in
-    let s = w in
+    let l = c.loop-a in
     let e = ap found_four c.in_default.is in
     e
-    ∙ looked_hit (at_a s.args.n (holds s.args.after)) s.args.n l.a l.invariant (search rules) (sym w.first_unless_twin-found.ensures ∙ e)
-
-pub loop-a-smaller : goal.loop-a-smaller
-loop-a-smaller c = omega arith
+    ∙ looked_hit (at_a c.args.n (holds c.args.after)) c.args.n l.a l.invariant (search rules) (sym c.first_unless_twin-found.ensures ∙ e)
 
 pub loop-a-preserved : goal.loop-a-preserved
 loop-a-preserved c =
-    let w = c in
-    let l = w.loop-a in
-    let s = w in
-    looked_next (at_a s.args.n (holds s.args.after)) s.args.n l.a l.invariant (search rules)
-    (sym w.first_unless_twin-found.ensures ∙ ap found_four c.in-Nothing.is)
+    let l = c.loop-a in
+    looked_next (at_a c.args.n (holds c.args.after)) c.args.n l.a l.invariant (search rules)
+    (sym c.first_unless_twin-found.ensures ∙ ap found_four c.in-Nothing.is)
 
 pub returns : goal.returns
 unfolding first_n_of
 returns c =
-    let s = c in
-    looked_end (at_a s.args.n (holds s.args.after)) s.args.n c.loop-a.a c.loop-a.invariant c.loop-a-test.false
+    looked_end (at_a c.args.n (holds c.args.after)) c.args.n c.loop-a.a c.loop-a.invariant c.loop-a-test.false

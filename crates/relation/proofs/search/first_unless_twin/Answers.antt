@@ -7,7 +7,6 @@ use Rattle.relation.proofs.search.first_unless_twin.Goals as goal
 
 pub returns-then-twin : goal.returns-then-twin
 returns-then-twin c =
-    let s = c in
-    let a = s.args.a in
+    let a = c.args.a in
     let t = c.twin.ensures c.if-twin.true in
-    twin_none s.args.n (holds s.args.after.now) (a - 1) a s.requires.n_bound.0 t.1 (s.requires.by_index_3 (a - 1) (omega (arith, t.0)))
+    twin_none c.args.n (holds c.args.after.now) (a - 1) a c.requires.n_bound.0 t.1 (c.requires.by_index_3 (a - 1) (omega (arith, t.0)))

@@ -11,8 +11,7 @@ use Rattle.relation.proofs.search.first_with_a.Goals as goal
 pub loop-bs-init : goal.loop-bs-init
 unfolding holds
 loop-bs-init c =
-    let s = c in
-    beside_first s.args.n (holds s.args.after.now) s.args.a _ s.requires.n_bound.0 s.requires.n_bound.1 (s.requires.by_index s.args.a)
+    beside_first c.args.n (holds c.args.after.now) c.args.a _ c.requires.n_bound.0 c.requires.n_bound.1 (c.requires.by_index c.args.a)
 
 pub smallest-b-requires : goal.smallest-b-requires
 smallest-b-requires c = sym c.inhabited.ensures ∙ c.loop-bs-test.true
@@ -27,35 +26,27 @@ first_with_b-found-requires c =
 
 pub returns-in_default : goal.returns-in_default
 returns-in_default c =
-    let w = c in
-    let q = w in
-    let l = q.loop-bs in
-    let s = q in
+    let l = c.loop-bs in
     let e = ap found_four c.in_default.is in
     e
-    ∙ sought_hit (at_b s.args.n (holds s.args.after.now) s.args.a) (below s.args.n) l.bs l.invariant.sought _ q.smallest-b.ensures
-    (sym w.first_with_b-found.ensures ∙ e)
+    ∙ sought_hit (at_b c.args.n (holds c.args.after.now) c.args.a) (below c.args.n) l.bs l.invariant.sought _ c.smallest-b.ensures
+    (sym c.first_with_b-found.ensures ∙ e)
 
 pub without_smallest-others-requires : goal.without_smallest-others-requires
-without_smallest-others-requires c = let q = c in sym q.inhabited.ensures ∙ q.loop-bs-test.true
+without_smallest-others-requires c = sym c.inhabited.ensures ∙ c.loop-bs-test.true
 
 pub loop-bs-smaller : goal.loop-bs-smaller
 loop-bs-smaller c =
-    let q = c in
-    members_less q.loop-bs.bs _ _ q.smallest-b.ensures c.without_smallest-others.ensures
+    members_less c.loop-bs.bs _ _ c.smallest-b.ensures c.without_smallest-others.ensures
 
 pub loop-bs-preserved : goal.loop-bs-preserved
 loop-bs-preserved c =
-    let w = c in
-    let q = w in
-    let l = q.loop-bs in
-    let s = q in
-    beside_next s.args.n (holds s.args.after.now) s.args.a l.bs l.invariant _ q.smallest-b.ensures _ c.without_smallest-others.ensures
-    (sym w.first_with_b-found.ensures ∙ ap found_four c.in-Nothing.is)
+    let l = c.loop-bs in
+    beside_next c.args.n (holds c.args.after.now) c.args.a l.bs l.invariant _ c.smallest-b.ensures _ c.without_smallest-others.ensures
+    (sym c.first_with_b-found.ensures ∙ ap found_four c.in-Nothing.is)
 
 pub returns : goal.returns
 returns c =
     let l = c.loop-bs in
-    let s = c in
-    sought_end (at_b s.args.n (holds s.args.after.now) s.args.a) (below s.args.n) l.bs l.invariant.sought
+    sought_end (at_b c.args.n (holds c.args.after.now) c.args.a) (below c.args.n) l.bs l.invariant.sought
     (sym c.inhabited.ensures ∙ c.loop-bs-test.false)

@@ -50,29 +50,27 @@ bounds-after-b-2 c = omega (arith, bounds (goal.at.bounds-after-b-2 c).Start)
 
 pub returns-then-not-inhabited : goal.returns-then-not-inhabited
 returns-then-not-inhabited c =
-    let q = c in
     no_fourth _ _ _ _ _ _ _ (sides (goal.at.returns-then-not-inhabited c).After-intersection-cs) (sym c.inhabited.ensures ∙ c.if-not-inhabited.true)
 
 pub offset_bounds-free-c : goal.offset_bounds-free-c
 offset_bounds-free-c c =
-    let w = c in
-    omega (arith, third_small _ _ _ _ _ _ _ (sides (goal.at.offset_bounds-free-c c).After-intersection-cs) _ w.first_by_words-found.ensures _ (ap found c.in-At.is))
+    omega (
+      arith,
+      third_small _ _ _ _ _ _ _ (sides (goal.at.offset_bounds-free-c c).After-intersection-cs) _ c.first_by_words-found.ensures _
+          (ap found c.in-At.is),
+    )
 
 pub bounds-free-c : goal.bounds-free-c
 bounds-free-c c =
-    let w = c in
-    third_small _ _ _ _ _ _ _ (sides (goal.at.bounds-free-c c).After-intersection-cs) _ w.first_by_words-found.ensures _ (ap found c.in-At.is)
+    third_small _ _ _ _ _ _ _ (sides (goal.at.bounds-free-c c).After-intersection-cs) _ c.first_by_words-found.ensures _ (ap found c.in-At.is)
 
 pub returns-in-At : goal.returns-in-At
 unfolding holds
 returns-in-At c =
-    let f = c in
-    let w = f in
     c.with_smallest.ensures
-    ∙ third_found _ _ _ _ _ _ _ (sides (goal.at.returns-in-At c).After-intersection-cs) _ w.first_by_words-found.ensures _ (ap found c.in-At.is) _
+    ∙ third_found _ _ _ _ _ _ _ (sides (goal.at.returns-in-At c).After-intersection-cs) _ c.first_by_words-found.ensures _ (ap found c.in-At.is) _
     c.intersection.ensures
 
 pub returns-in-Nothing : goal.returns-in-Nothing
 returns-in-Nothing c =
-    let w = c in
-    no_third _ _ _ _ _ _ _ (sides (goal.at.returns-in-Nothing c).After-intersection-cs) _ w.first_by_words-found.ensures (ap found c.in-Nothing.is)
+    no_third _ _ _ _ _ _ _ (sides (goal.at.returns-in-Nothing c).After-intersection-cs) _ c.first_by_words-found.ensures (ap found c.in-Nothing.is)

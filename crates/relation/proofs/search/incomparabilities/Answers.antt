@@ -11,26 +11,19 @@ use Rattle.relation.proofs.search.incomparabilities.Goals as goal
 pub loop-u-init : goal.loop-u-init
 loop-u-init c = filled_none (apart c.args.n (holds c.args.after.now)) c.args.n
 
-pub loop-u-smaller : goal.loop-u-smaller
-loop-u-smaller c = omega arith
-
 pub loop-u-preserved : goal.loop-u-preserved
 unfolding holds
 loop-u-preserved c =
-    let o = c in
-    let l = o.loop-u in
-    let a = o in
-    let s = a in
-    let r = holds s.args.after.now in
-    filled_next (apart s.args.n r) s.args.n l.r l.u l.invariant (search rules) (search rules) c.difference.result
+    let l = c.loop-u in
+    let r = holds c.args.after.now in
+    filled_next (apart c.args.n r) c.args.n l.r l.u l.invariant (search rules) (search rules) c.difference.result
     (λ v.
-    apart_row s.args.n r l.u v (search rules) _ _ _ (c.difference.ensures v) (a.all_below-all.ensures v)
+    apart_row c.args.n r l.u v (search rules) _ _ _ (c.difference.ensures v) (c.all_below-all.ensures v)
     (c.union-near.ensures v
-    ∙ ap₂ ◌||◌ (o.only.ensures v) (c.union.ensures v ∙ ap (λ b. r l.u v || b) (s.requires.by_index l.u v))))
+    ∙ ap₂ ◌||◌ (c.only.ensures v) (c.union.ensures v ∙ ap (λ b. r l.u v || b) (c.requires.by_index l.u v))))
 
 pub returns : goal.returns
 returns c =
-    let s = c in
     let l = c.loop-u in
-    filled_end (apart s.args.n (holds s.args.after.now)) s.args.n l.r l.u l.invariant c.loop-u-test.false
+    filled_end (apart c.args.n (holds c.args.after.now)) c.args.n l.r l.u l.invariant c.loop-u-test.false
     (λ u v e. (apart_both _ _ u v e).0)

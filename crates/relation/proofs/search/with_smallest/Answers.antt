@@ -9,9 +9,8 @@ use Rattle.relation.proofs.search.with_smallest.Goals as goal
 pub returns-then-not-inhabited : goal.returns-then-not-inhabited
 unfolding first
 returns-then-not-inhabited c =
-    let q = c in
-    sym (ap (first (λ d. some (q.args.a, q.args.b, q.args.c, d)))
-    (members_end q.args.s (sym q.inhabited.ensures ∙ c.if-not-inhabited.true)))
+    sym (ap (first (λ d. some (c.args.a, c.args.b, c.args.c, d)))
+    (members_end c.args.s (sym c.inhabited.ensures ∙ c.if-not-inhabited.true)))
 
 pub smallest-requires : goal.smallest-requires
 smallest-requires c = sym c.inhabited.ensures ∙ c.if-not-inhabited.false

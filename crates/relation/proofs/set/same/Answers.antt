@@ -7,8 +7,7 @@ use Rattle.relation.proofs.set.same.Goals as goal
 
 pub returns : goal.returns
 returns c =
-    let u = c in
     ap not
     (c.inhabited.ensures
     ∙ ap (λ p. exists p (below 128))
-    (fun_ext λ v. u.union.ensures v ∙ ap₂ ◌||◌ (u.difference.ensures v) (u.difference-2.ensures v) ∙ in_one_alone _ _))
+    (fun_ext λ v. c.union.ensures v ∙ ap₂ ◌||◌ (c.difference.ensures v) (c.difference-2.ensures v) ∙ in_one_alone _ _))

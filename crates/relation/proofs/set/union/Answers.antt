@@ -11,4 +11,5 @@ pub returns : goal.returns
 returns c =
     let a = c.args.a in
     let b = c.args.b in
-    pointwise ◌||◌ refl a b (search rules) (search rules) _ _ (λ i _. bit_or_lem (get_or a 0 0) (get_or b 0 0) i) (λ i _. bit_or_lem (get_or a 1 0) (get_or b 1 0) i)
+    pointwise ◌||◌ refl a b (search rules) (search rules) _ _ (λ i _. bit_or_lem (get_or a 0 0) (get_or b 0 0) i)
+    (λ i _. bit_or_lem (get_or a 1 0) (get_or b 1 0) i)

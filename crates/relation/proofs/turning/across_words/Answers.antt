@@ -10,22 +10,17 @@ use Rattle.relation.proofs.turning.across_words.Goals as goal
 pub loop-u-init : goal.loop-u-init
 loop-u-init c = paired_none 6 c.args.t.now 64 c.requires
 
-pub loop-u-smaller : goal.loop-u-smaller
-loop-u-smaller c = omega arith
-
 pub loop-u-preserved : goal.loop-u-preserved
 loop-u-preserved c =
-    let r = c in
-    let l = r.loop-u in
+    let l = c.loop-u in
     let here = near_itself l.u (search rules) in
-    paired_next 6 r.args.t.now 64 l.t l.u l.invariant _ _ here (ap (λ (x : ℕ). x + 64) here) (search rules) _ _
+    paired_next 6 c.args.t.now 64 l.t l.u l.invariant _ _ here (ap (λ (x : ℕ). x + 64) here) (search rules) _ _
     c.first_words.ensures c.second_words.ensures (search rules)
 
 pub returns : goal.returns
 returns c =
     let l = c.loop-u in
-    let s = c in
-    let t = s.args.t.now in record {
+    let t = c.args.t.now in record {
       t_len = l.invariant.rows;
-      by_index = paired_end 6 t 64 l.t l.u l.invariant 7 refl c.loop-u-test.false (search rules) (until_rows t s.requires);
+      by_index = paired_end 6 t 64 l.t l.u l.invariant 7 refl c.loop-u-test.false (search rules) (until_rows t c.requires);
     }

@@ -45,14 +45,10 @@ offset_bounds-t-x-in-loop-m c = omega (arith, room (goal.at.offset_bounds-t-x-in
 pub bounds-t-x-in-loop-m : goal.bounds-t-x-in-loop-m
 bounds-t-x-in-loop-m c = omega (arith, room (goal.at.bounds-t-x-in-loop-m c).In-loop-m)
 
-pub loop-m-smaller : goal.loop-m-smaller
-loop-m-smaller c = omega arith
-
 pub loop-m-preserved : goal.loop-m-preserved
 loop-m-preserved c =
-    let r = c in
-    let l = r.loop-m in
-    let a = r.args in
+    let l = c.loop-m in
+    let a = c.args in
     paired_next a.e a.t.now _ l.t l.m l.invariant _ _
     (near_first a.e a.w l.m (search rules) (search rules) (search rules))
     (near_second a.e a.w l.m (search rules) (search rules) (search rules))
@@ -61,9 +57,8 @@ loop-m-preserved c =
 pub returns : goal.returns
 returns c =
     let l = c.loop-m in
-    let s = c in
-    let a = s.args in
+    let a = c.args in
     let whole = one_shifted (a.w - 1) (omega arith) in record {
       t_len = l.invariant.rows;
-      by_index_2 = paired_end a.e a.t.now _ l.t l.m l.invariant a.w whole c.loop-m-test.false (search rules) s.requires.until;
+      by_index_2 = paired_end a.e a.t.now _ l.t l.m l.invariant a.w whole c.loop-m-test.false (search rules) c.requires.until;
     }

@@ -6,5 +6,4 @@ use Rattle.sheet.proofs.line.last_hours.Goals as goal
 
 pub ended-requires : goal.ended-requires
 ended-requires c =
-    let o = c in
-    omega (arith, next_near hours_digits o.args.s.now o.args.at c.long_number.result c.long_number.ensures (omega arith), o.requires)
+    omega (arith, next_near hours_digits c.args.s.now c.args.at c.long_number.result c.long_number.ensures (omega arith), c.requires)

@@ -6,5 +6,4 @@ use Rattle.sheet.proofs.line.last_number.Goals as goal
 
 pub ended-requires : goal.ended-requires
 ended-requires c =
-    let o = c in
-    omega (arith, next_near most_digits o.args.s.now o.args.at c.number.result c.number.ensures (omega arith), o.requires)
+    omega (arith, next_near most_digits c.args.s.now c.args.at c.number.result c.number.ensures (omega arith), c.requires)

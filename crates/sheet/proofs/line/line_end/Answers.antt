@@ -7,15 +7,12 @@ returns-then-s-at-eq10 c = let a = c.args in ends_feed a.s.now a.at c.if-s-at-eq
 
 pub returns-then-s-next-eq10 : goal.returns-then-s-next-eq10
 returns-then-s-next-eq10 c =
-    let o = c in
-    ends_return o.args.s.now o.args.at c.if-s-at-eq13.true c.if-s-next-eq10.true
+    ends_return c.args.s.now c.args.at c.if-s-at-eq13.true c.if-s-next-eq10.true
 
 pub returns-then-s-at-eq13 : goal.returns-then-s-at-eq13
 returns-then-s-at-eq13 c =
-    let o = c in
-    ends_stray o.args.s.now o.args.at c.if-s-at-eq13.true c.if-s-next-eq10.false
+    ends_stray c.args.s.now c.args.at c.if-s-at-eq13.true c.if-s-next-eq10.false
 
 pub returns : goal.returns
 returns c =
-    let o = c in
-    ends_none o.args.s.now o.args.at c.if-s-at-eq10.false c.if-s-at-eq13.false
+    ends_none c.args.s.now c.args.at c.if-s-at-eq10.false c.if-s-at-eq13.false

@@ -13,9 +13,8 @@ returns-then-next-at c =
 
 pub bounds-s-next : goal.bounds-s-next
 bounds-s-next c =
-    let o = c in
     let n = c.number-n in
-    omega (arith, next_near most_digits o.args.s.now o.args.at n.result n.ensures (omega arith), o.requires)
+    omega (arith, next_near most_digits c.args.s.now c.args.at n.result n.ensures (omega arith), c.requires)
 
 pub returns-then-s-next-eq32 : goal.returns-then-s-next-eq32
 returns-then-s-next-eq32 c =

@@ -3,4 +3,4 @@ use Rattle.writer.proofs.Packs.{moves}
 use Rattle.writer.proofs.pack.moved.Goals as goal
 
 pub returns : goal.returns
-returns c = let s = c in moves s.args.bytes.now s.args.p s.requires.0 s.requires.2
+returns c = moves c.args.bytes.now c.args.p c.requires.0 c.requires.2

@@ -8,8 +8,7 @@ returns-then-p-lt8 c = puts_none c.if-p-lt8.true
 
 pub moved-requires : goal.moved-requires
 moved-requires c =
-    let s = c in
-    (c.if-p-lt8.false, omega (arith, s.requires.0), s.requires.1 c.if-p-lt8.false)
+    (c.if-p-lt8.false, omega (arith, c.requires.0), c.requires.1 c.if-p-lt8.false)
 
 pub returns : goal.returns
 returns c = puts_moved c.moved.ensures c.requires.0

@@ -46,13 +46,11 @@ pub taken-job-requires : goal.taken-job-requires
 taken-job-requires c = omega (arith, c.requires.ready.few, c.if-field-lt128.true)
 
 pub taken-leaf-requires : goal.taken-leaf-requires
-taken-leaf-requires c =
-    let t = c in
-    let s = t in (
-      omega (arith, t.taken-job.ensures.more, length_bits 8 s.args.field, s.requires.ready.few),
-      subst (λ h. h < 2 ^ hours_bits) (sym c.wide_u16.ensures)
-          (entry_below s.args.hours.now s.args.field (2 ^ hours_bits) (omega arith) s.requires.all_below),
-    )
+taken-leaf-requires c = (
+  omega (arith, c.taken-job.ensures.more, length_bits 8 c.args.field, c.requires.ready.few),
+  subst (λ h. h < 2 ^ hours_bits) (sym c.wide_u16.ensures)
+      (entry_below c.args.hours.now c.args.field (2 ^ hours_bits) (omega arith) c.requires.all_below),
+)
 
 pub moved-one-requires : goal.moved-one-requires
 moved-one-requires c = omega (arith, leaf_room (goal.at.moved-one-requires c).After-taken-leaf)
@@ -85,4 +83,5 @@ returns-then-field-lt128 c =
     (Moves-both c.moved-two.ensures c.moved_if_full.ensures)
 
 pub returns-else-field-lt128 : goal.returns-else-field-lt128
-returns-else-field-lt128 c = puts_after (group-takes (goal.at.returns-else-field-lt128 c).After-taken-group) c.moved-one-else-field-lt128.ensures c.moved_if_full-else-field-lt128.ensures
+returns-else-field-lt128 c = puts_after (group-takes (goal.at.returns-else-field-lt128 c).After-taken-group) c.moved-one-else-field-lt128.ensures
+    c.moved_if_full-else-field-lt128.ensures

@@ -3,7 +3,7 @@ use Rattle.writer.proofs.Packs.{value_fits, takes}
 use Rattle.writer.proofs.pack.taken.Goals as goal
 
 pub overflow_add-result-2 : goal.overflow_add-result-2
-overflow_add-result-2 c = let s = c in record { fits = value_fits s.args.p s.args.width s.args.field s.requires.0 s.requires.1 }
+overflow_add-result-2 c = record { fits = value_fits c.args.p c.args.width c.args.field c.requires.0 c.requires.1 }
 
 pub returns : goal.returns
-returns c = let s = c in takes s.args.p s.args.width s.args.field s.requires.0 s.requires.1
+returns c = takes c.args.p c.args.width c.args.field c.requires.0 c.requires.1

@@ -19,24 +19,18 @@ largest-y-requires c = sym c.inhabited.ensures ∙ c.loop-x-test.true
 pub loop-x-smaller : goal.loop-x-smaller
 unfolding holds
 loop-x-smaller c =
-    let l = c in
-    let s = l in
     let y = c.largest-y in
-    down_falls (holds s.args.under.now) s.args.s l.loop-x.x l.loop-x.ahead l.loop-x.invariant y.result c.intersection-fewer.result
-    s.requires.partial y.ensures c.intersection-fewer.ensures
+    down_falls (holds c.args.under.now) c.args.s c.loop-x.x c.loop-x.ahead c.loop-x.invariant y.result c.intersection-fewer.result
+    c.requires.partial y.ensures c.intersection-fewer.ensures
 
 pub loop-x-preserved : goal.loop-x-preserved
 unfolding holds
 loop-x-preserved c =
-    let l = c in
-    let s = l in
     let y = c.largest-y in
-    down_next (holds s.args.under.now) s.args.s l.loop-x.x l.loop-x.ahead l.loop-x.invariant y.result c.intersection-fewer.result
+    down_next (holds c.args.under.now) c.args.s c.loop-x.x c.loop-x.ahead c.loop-x.invariant y.result c.intersection-fewer.result
     y.ensures c.intersection-fewer.ensures
 
 pub returns : goal.returns
 returns c =
-    let l = c in
-    let s = l in
-    down_end (holds s.args.under.now) s.args.s l.loop-x.x l.loop-x.ahead l.loop-x.invariant s.requires.jobs
+    down_end (holds c.args.under.now) c.args.s c.loop-x.x c.loop-x.ahead c.loop-x.invariant c.requires.jobs
     (sym c.inhabited.ensures ∙ c.loop-x-test.false)

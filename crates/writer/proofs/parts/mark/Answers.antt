@@ -6,24 +6,20 @@ use Rattle.writer.proofs.parts.mark.Goals as goal
 
 pub mark_each-requires : goal.mark_each-requires
 mark_each-requires c =
-    let s = c in record {
-      jobs = jobs_within s.args.part c.low.result (λ v. ltb v 64) s.requires.jobs c.low.ensures;
-      numbers_len = s.requires.numbers_len;
+    record {
+      jobs = jobs_within c.args.part c.low.result (λ v. ltb v 64) c.requires.jobs c.low.ensures;
+      numbers_len = c.requires.numbers_len;
     }
 
 pub mark_each-requires-2 : goal.mark_each-requires-2
 mark_each-requires-2 c =
-    let m = c in
-    let s = m in record {
-      jobs = jobs_within s.args.part c.high.result (λ v. not (ltb v 64)) s.requires.jobs c.high.ensures;
-      numbers_len = m.mark_each.ensures.size;
+    record {
+      jobs = jobs_within c.args.part c.high.result (λ v. not (ltb v 64)) c.requires.jobs c.high.ensures;
+      numbers_len = c.mark_each.ensures.size;
     }
 
 pub returns : goal.returns
 returns c =
-    let h = c in
-    let m = h in
-    let l = m in
-    let a = l.args in
-    marked_halves a.part l.low.result h.high.result a.number a.numbers.now _ _ l.low.ensures h.high.ensures
-    m.mark_each.ensures c.mark_each-2.ensures
+    let a = c.args in
+    marked_halves a.part c.low.result c.high.result a.number a.numbers.now _ _ c.low.ensures c.high.ensures
+    c.mark_each.ensures c.mark_each-2.ensures

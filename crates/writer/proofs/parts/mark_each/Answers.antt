@@ -26,6 +26,5 @@ loop-rest-preserved c =
 pub returns : goal.returns
 returns c =
     let l = c.loop-rest in
-    let s = c in
-    marking_end s.args.jobs s.args.number s.args.numbers.now l.rest l.numbers l.invariant s.requires.jobs
+    marking_end c.args.jobs c.args.number c.args.numbers.now l.rest l.numbers l.invariant c.requires.jobs
     (sym c.inhabited.ensures ∙ c.loop-rest-test.false)

@@ -18,38 +18,34 @@ only-todo-requires c = c.requires.jobs c.args.x c.requires.x_value
 -- x and the others are all
 sum-start : (c : goal.After-difference-rest) → size_of c.only-todo.result + size_of c.difference-rest.result ≡ size_of c.args.s
 sum-start c =
-    let s = c in
     let todo = c.only-todo in
     add_comm (size_of todo.result) (size_of c.difference-rest.result)
-    ∙ cut_size s.args.s c.difference-rest.result todo.result
-    (λ v p. ap (has s.args.s) (sym (eqb-true s.args.x v (sym (todo.ensures v) ∙ p))) ∙ s.requires.x_value) c.difference-rest.ensures
+    ∙ cut_size c.args.s c.difference-rest.result todo.result
+    (λ v p. ap (has c.args.s) (sym (eqb-true c.args.x v (sym (todo.ensures v) ∙ p))) ∙ c.requires.x_value) c.difference-rest.ensures
 
 pub loop-rest-init : goal.loop-rest-init
-loop-rest-init c =
-    let s = c in (
-      search_start (holds s.args.near.now) s.args.s s.args.x c.only-todo.result c.difference-rest.result s.requires.x_value
-          c.only-todo.ensures c.difference-rest.ensures,
-      gone_none (holds s.args.near.now) s.args.s s.args.x s.args.number s.args.numbers.now c.only-todo.result
-          c.difference-rest.result s.requires.numbers_len c.difference-rest.ensures,
-      omega (arith, sum-start (goal.at.loop-rest-init c).After-difference-rest),
-    )
+loop-rest-init c = (
+  search_start (holds c.args.near.now) c.args.s c.args.x c.only-todo.result c.difference-rest.result c.requires.x_value
+      c.only-todo.ensures c.difference-rest.ensures,
+  gone_none (holds c.args.near.now) c.args.s c.args.x c.args.number c.args.numbers.now c.only-todo.result
+      c.difference-rest.result c.requires.numbers_len c.difference-rest.ensures,
+  omega (arith, sum-start (goal.at.loop-rest-init c).After-difference-rest),
+)
 
 pub returns-then-not-inhabited : goal.returns-then-not-inhabited
 returns-then-not-inhabited c =
-    let l = c in
-    let s = l in
-    let near = holds s.args.near.now in
-    let none = empty l.loop-rest.todo (todo_jobs near s.args.s s.args.x l.loop-rest.todo l.loop-rest.rest s.requires.jobs l.loop-rest.invariant.0)
+    let near = holds c.args.near.now in
+    let none = empty c.loop-rest.todo (todo_jobs near c.args.s c.args.x c.loop-rest.todo c.loop-rest.rest c.requires.jobs c.loop-rest.invariant.0)
     (sym c.inhabited-in-loop-rest.ensures ∙ c.if-not-inhabited.true) in record {
-      part_of = search_end near s.args.s s.args.x l.loop-rest.todo l.loop-rest.rest c.difference.result l.loop-rest.invariant.0 none c.difference.ensures;
+      part_of = search_end near c.args.s c.args.x c.loop-rest.todo c.loop-rest.rest c.difference.result c.loop-rest.invariant.0 none c.difference.ensures;
       size_value = omega (
         arith,
-        l.loop-rest.invariant.2,
-        none_jobs l.loop-rest.todo none,
-        cut_size s.args.s c.difference.result l.loop-rest.rest l.loop-rest.invariant.0.rest_in c.difference.ensures,
+        c.loop-rest.invariant.2,
+        none_jobs c.loop-rest.todo none,
+        cut_size c.args.s c.difference.result c.loop-rest.rest c.loop-rest.invariant.0.rest_in c.difference.ensures,
       );
-      marked = marked_found near s.args.s s.args.x s.args.number s.args.numbers.now l.loop-rest.todo l.loop-rest.rest l.loop-rest.numbers
-          l.loop-rest.invariant.0 l.loop-rest.invariant.1 c.difference.result none c.difference.ensures;
+      marked = marked_found near c.args.s c.args.x c.args.number c.args.numbers.now c.loop-rest.todo c.loop-rest.rest c.loop-rest.numbers
+          c.loop-rest.invariant.0 c.loop-rest.invariant.1 c.difference.result none c.difference.ensures;
     }
 
 pub smallest-y-requires : goal.smallest-y-requires
@@ -58,13 +54,11 @@ smallest-y-requires c = sym c.inhabited-in-loop-rest.ensures ∙ c.if-not-inhabi
 pub overflow_add-size : goal.overflow_add-size
 overflow_add-size c =
     let l = c.loop-rest in
-    let s = c in
-    record { fits = omega (arith, l.invariant.2, few_members s.args.s) }
+    record { fits = omega (arith, l.invariant.2, few_members c.args.s) }
 
 pub without_smallest-others-requires : goal.without_smallest-others-requires
 without_smallest-others-requires c =
-    let e = c in
-    sym e.inhabited-in-loop-rest.ensures ∙ e.if-not-inhabited.false
+    sym c.inhabited-in-loop-rest.ensures ∙ c.if-not-inhabited.false
 
 -- one job is gone through
 turned : (c : goal.After-difference-fewer)
@@ -72,12 +66,10 @@ turned : (c : goal.After-difference-fewer)
     (size_of c.union-more.result + size_of c.difference-fewer.result) + 1 ≡ size_of l.loop-rest.todo + size_of l.loop-rest.rest
 unfolding holds
 turned c =
-    let l = c in
-    let s = l in
     let y = c.smallest-y in
-    search_counts (holds s.args.near.now y.result) l.loop-rest.todo l.loop-rest.rest c.intersection-found.result
+    search_counts (holds c.args.near.now y.result) c.loop-rest.todo c.loop-rest.rest c.intersection-found.result
     c.without_smallest-others.result c.union-more.result c.difference-fewer.result y.result y.ensures
-    (λ v p. (l.loop-rest.invariant.0.todo_in v p).1) c.intersection-found.ensures c.without_smallest-others.ensures
+    (λ v p. (c.loop-rest.invariant.0.todo_in v p).1) c.intersection-found.ensures c.without_smallest-others.ensures
     c.union-more.ensures c.difference-fewer.ensures
 
 pub loop-rest-smaller : goal.loop-rest-smaller
@@ -86,39 +78,33 @@ loop-rest-smaller c = omega (arith, turned (goal.at.loop-rest-smaller c).After-d
 pub loop-rest-preserved : goal.loop-rest-preserved
 unfolding holds
 loop-rest-preserved c =
-    let l = c in
-    let s = l in
     let y = c.smallest-y in
     let f = c.intersection-found in
     let o = c.without_smallest-others in
     let m = c.union-more in
-    let near = holds s.args.near.now in (
-      search_next near s.args.s s.args.x l.loop-rest.todo l.loop-rest.rest y.result f.result o.result m.result c.difference-fewer.result
-          l.loop-rest.invariant.0 y.ensures f.ensures o.ensures m.ensures c.difference-fewer.ensures,
-      gone_next near s.args.s s.args.x s.args.number s.args.numbers.now l.loop-rest.todo l.loop-rest.rest l.loop-rest.numbers
-          l.loop-rest.invariant.0 l.loop-rest.invariant.1 y.result f.result o.result m.result c.difference-fewer.result y.ensures f.ensures
+    let near = holds c.args.near.now in (
+      search_next near c.args.s c.args.x c.loop-rest.todo c.loop-rest.rest y.result f.result o.result m.result c.difference-fewer.result
+          c.loop-rest.invariant.0 y.ensures f.ensures o.ensures m.ensures c.difference-fewer.ensures,
+      gone_next near c.args.s c.args.x c.args.number c.args.numbers.now c.loop-rest.todo c.loop-rest.rest c.loop-rest.numbers
+          c.loop-rest.invariant.0 c.loop-rest.invariant.1 y.result f.result o.result m.result c.difference-fewer.result y.ensures f.ensures
           o.ensures m.ensures c.difference-fewer.ensures,
-      omega (arith, l.loop-rest.invariant.2, turned (goal.at.loop-rest-preserved c).After-difference-fewer),
+      omega (arith, c.loop-rest.invariant.2, turned (goal.at.loop-rest-preserved c).After-difference-fewer),
     )
 
 pub mark-requires : goal.mark-requires
 mark-requires c =
-    let l = c in
-    let s = l in record {
-      jobs = todo_jobs (holds s.args.near.now) s.args.s s.args.x l.loop-rest.todo l.loop-rest.rest s.requires.jobs l.loop-rest.invariant.0;
-      numbers_len = l.loop-rest.invariant.1.size;
+    record {
+      jobs = todo_jobs (holds c.args.near.now) c.args.s c.args.x c.loop-rest.todo c.loop-rest.rest c.requires.jobs c.loop-rest.invariant.0;
+      numbers_len = c.loop-rest.invariant.1.size;
     }
 
 pub returns : goal.returns
 returns c =
-    let e = c in
-    let l = e in
-    let s = l in
-    let near = holds s.args.near.now in
-    let none = empty l.loop-rest.rest (rest_jobs near s.args.s s.args.x l.loop-rest.todo l.loop-rest.rest s.requires.jobs l.loop-rest.invariant.0)
-    (sym e.inhabited.ensures ∙ e.loop-rest-test.false) in record {
-      part_of = search_all near s.args.s s.args.x l.loop-rest.todo l.loop-rest.rest l.loop-rest.invariant.0 none;
-      size_value = s.requires.whole_value;
-      marked = marked_all near s.args.s s.args.x s.args.number s.args.numbers.now l.loop-rest.todo l.loop-rest.rest l.loop-rest.numbers
-          l.loop-rest.invariant.0 l.loop-rest.invariant.1 _ none c.mark.ensures;
+    let near = holds c.args.near.now in
+    let none = empty c.loop-rest.rest (rest_jobs near c.args.s c.args.x c.loop-rest.todo c.loop-rest.rest c.requires.jobs c.loop-rest.invariant.0)
+    (sym c.inhabited.ensures ∙ c.loop-rest-test.false) in record {
+      part_of = search_all near c.args.s c.args.x c.loop-rest.todo c.loop-rest.rest c.loop-rest.invariant.0 none;
+      size_value = c.requires.whole_value;
+      marked = marked_all near c.args.s c.args.x c.args.number c.args.numbers.now c.loop-rest.todo c.loop-rest.rest c.loop-rest.numbers
+          c.loop-rest.invariant.0 c.loop-rest.invariant.1 _ none c.mark.ensures;
     }

@@ -9,7 +9,8 @@ use Rattle.writer.proofs.parts.part_of.Given as goal
 
 abbrev pub invariant-loop-rest : goal.invariant-loop-rest
 invariant-loop-rest l =
-    Searching (holds l.near) l.s l.x l.todo l.rest × Marked (gone l.s l.todo l.rest) l.number l.initial.numbers l.numbers × (l.size + (size_of l.todo + size_of l.rest) ≡ size_of l.s)
+    Searching (holds l.near) l.s l.x l.todo l.rest × Marked (gone l.s l.todo l.rest) l.number l.initial.numbers l.numbers
+    × (l.size + (size_of l.todo + size_of l.rest) ≡ size_of l.s)
 
 abbrev pub decreases-loop-rest : goal.decreases-loop-rest
 decreases-loop-rest l = size_of l.todo + size_of l.rest

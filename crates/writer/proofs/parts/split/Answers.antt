@@ -24,23 +24,20 @@ loop-left-init c =
 pub start_of-x-requires : goal.start_of-x-requires
 start_of-x-requires c =
     let l = c.loop-left in
-    let s = c in record {
-      jobs = (λ v p. s.requires.jobs v (l.invariant.0.within v p));
+    record {
+      jobs = (λ v p. c.requires.jobs v (l.invariant.0.within v p));
       below_value = sym c.inhabited.ensures ∙ c.loop-left-test.true;
-      partial = s.requires.partial;
+      partial = c.requires.partial;
     }
-
-pub overflow_cast-count : goal.overflow_cast-count
-overflow_cast-count c = omega arith
 
 pub part_of-found-requires : goal.part_of-found-requires
 part_of-found-requires c =
     let x = c.start_of-x in
     let l = c.loop-left in
-    let s = c in record {
-      jobs = (λ v p. s.requires.jobs v (l.invariant.0.within v p));
+    record {
+      jobs = (λ v p. c.requires.jobs v (l.invariant.0.within v p));
       whole_value = l.invariant.2.0;
-      x_value = (starts_small (holds s.args.under.now) s.args.series l.left x.result x.ensures).1;
+      x_value = (starts_small (holds c.args.under.now) c.args.series l.left x.result x.ensures).1;
       numbers_len = l.invariant.1.numbered.size;
     }
 
@@ -72,9 +69,6 @@ offset_bounds-parts-count c = record { fits = omega (arith, room (goal.at.offset
 
 pub bounds-parts-count : goal.bounds-parts-count
 bounds-parts-count c = room (goal.at.bounds-parts-count c).After-difference-fewer
-
-pub overflow_cast-jobs : goal.overflow_cast-jobs
-overflow_cast-jobs c = omega arith
 
 pub bounds-jobs-count : goal.bounds-jobs-count
 bounds-jobs-count c = room (goal.at.bounds-jobs-count c).After-difference-fewer
@@ -118,13 +112,13 @@ loop-left-preserved c =
 pub returns : goal.returns
 returns c =
     let l = c.loop-left in
-    let s = c in record {
+    record {
       cut = record {
         size = l.invariant.0.size;
         few = omega (arith, l.invariant.0.room);
         these =
-            split_end (holds s.args.near.now) (holds s.args.under.now) s.args.series s.args.s l.left l.parts l.count l.invariant.0
-            s.requires.jobs (sym c.inhabited.ensures ∙ c.loop-left-test.false);
+            split_end (holds c.args.near.now) (holds c.args.under.now) c.args.series c.args.s l.left l.parts l.count l.invariant.0
+            c.requires.jobs (sym c.inhabited.ensures ∙ c.loop-left-test.false);
       };
       sized = l.invariant.2.1;
       numbered = l.invariant.1.numbered;

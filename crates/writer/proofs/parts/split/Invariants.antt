@@ -8,7 +8,8 @@ use Rattle.writer.proofs.parts.split.Given as goal
 
 abbrev pub invariant-loop-left : goal.invariant-loop-left
 invariant-loop-left l =
-    Splitting (holds l.near) (holds l.under) l.series l.initial.left l.left l.parts l.count × Numbering l.initial.left l.left l.parts l.count l.initial.numbers l.numbers
+    Splitting (holds l.near) (holds l.under) l.series l.initial.left l.left l.parts l.count
+    × Numbering l.initial.left l.left l.parts l.count l.initial.numbers l.numbers
     × ((l.size ≡ size_of l.left) × Sized l.count l.parts l.jobs)
 
 abbrev pub decreases-loop-left : goal.decreases-loop-left

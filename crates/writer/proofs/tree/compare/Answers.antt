@@ -10,30 +10,27 @@ use Rattle.writer.proofs.tree.compare.Goals as goal
 
 pub loop-u-init : goal.loop-u-init
 loop-u-init c =
-    let s = c in
-    let after = s.args.after.now in
-    let under = s.args.under.now in
-    (filled_none (either after under) _ s.requires.1, filled_none (neither after under s.args.n) _ s.requires.2)
+    let after = c.args.after.now in
+    let under = c.args.under.now in
+    (filled_none (either after under) _ c.requires.1, filled_none (neither after under c.args.n) _ c.requires.2)
 
 pub loop-u-preserved : goal.loop-u-preserved
 unfolding holds
 loop-u-preserved c =
-    let l = c in
-    let s = l in
-    let after = s.args.after.now in
-    let under = s.args.under.now in
-    let n = s.args.n in
-    let u = l.loop-u.u in
+    let after = c.args.after.now in
+    let under = c.args.under.now in
+    let n = c.args.n in
+    let u = c.loop-u.u in
     let near = c.union-near.ensures in (
-      filled_next (either after under) l.loop-u.tied u c.union-near.result (omega arith) near l.loop-u.invariant.0,
-      filled_next (neither after under n) l.loop-u.free u c.difference.result (omega arith)
+      filled_next (either after under) c.loop-u.tied u c.union-near.result (omega arith) near c.loop-u.invariant.0,
+      filled_next (neither after under n) c.loop-u.free u c.difference.result (omega arith)
           (λ v.
           c.difference.ensures v
           ∙ ap₂ (λ a b. a && not b)
-          (c.difference-others.ensures v ∙ ap₂ (λ a b. a && not b) (l.all_below-all.ensures v) (c.only.ensures v))
+          (c.difference-others.ensures v ∙ ap₂ (λ a b. a && not b) (c.all_below-all.ensures v) (c.only.ensures v))
           (near v)
           ∙ and_assoc (ltb v n) (not (eqb u v)) (not (either after under u v)))
-          l.loop-u.invariant.1,
+          c.loop-u.invariant.1,
     )
 
 pub returns : goal.returns

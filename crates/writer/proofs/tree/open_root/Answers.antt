@@ -20,11 +20,11 @@ use Rattle.writer.proofs.tree.open_root.Goals as goal
 pub split-first-requires : goal.split-first-requires
 split-first-requires c =
     let all = c.all_below-all in
-    let s = c in record {
-      jobs = (λ v q. omega (arith, ltb-true v s.args.n (sym (all.ensures v) ∙ q), s.requires.n_nonzero));
-      whole_value = sym (ap length (members_all all.result s.args.n s.requires.n_nonzero.1 all.ensures) ∙ length_below s.args.n);
-      partial = s.requires.partial;
-      parts_len = s.requires.parts_len;
+    record {
+      jobs = (λ v q. omega (arith, ltb-true v c.args.n (sym (all.ensures v) ∙ q), c.requires.n_nonzero));
+      whole_value = sym (ap length (members_all all.result c.args.n c.requires.n_nonzero.1 all.ensures) ∙ length_below c.args.n);
+      partial = c.requires.partial;
+      parts_len = c.requires.parts_len;
     }
 
 module _ (q : goal.After-split-first) where

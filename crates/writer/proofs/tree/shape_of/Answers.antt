@@ -15,9 +15,12 @@ compare-requires c = (c.requires.n_nonzero.1, refl, refl)
 
 pub grow-grown-requires : goal.grow-grown-requires
 grow-grown-requires c =
-    let s = c in
     let e = c.compare.ensures in record {
-      n_nonzero = (s.requires.n_nonzero.0, tables _ _ _ _ _ s.requires.n_nonzero.1 s.requires.strict s.requires.inside s.requires.by_index e.by_index e.by_index_2);
+      n_nonzero = (
+        c.requires.n_nonzero.0,
+        tables _ _ _ _ _ c.requires.n_nonzero.1 c.requires.strict c.requires.inside c.requires.by_index e.by_index
+            e.by_index_2,
+      );
       parts_len = (refl, refl, refl);
       stacks = record { sets_length = refl; starts_length = refl; kinds_length = refl; sizes_length = refl; sized = λ h l. absurd (omega arith) };
       fields_value = (refl, refl, refl);
@@ -31,7 +34,8 @@ order g = ap (λ r. shape (tree_of g.args.n r)) (transpose_is _ _ g.requires.by_
 
 pub returns-then-not-grown : goal.returns-then-not-grown
 returns-then-not-grown c =
-    c.no_shape.ensures ∙ c.grow-grown.ensures.no_shape_value (not-true c.grow-grown.result.ok c.if-not-grown.true) ∙ order (goal.at.returns-then-not-grown c).After-grow-grown
+    c.no_shape.ensures ∙ c.grow-grown.ensures.no_shape_value (not-true c.grow-grown.result.ok c.if-not-grown.true)
+    ∙ order (goal.at.returns-then-not-grown c).After-grow-grown
 
 pub returns : goal.returns
 returns c =

@@ -49,7 +49,8 @@ returns c =
       these =
           ap (entries stack starts kinds) level
           ∙ push.ensures.count_after
-          ∙ ap (λ k. spread_out (get_or a.kinds.now top false) (get_or a.starts.now top 0) k (take a.count a.parts.now) ++ others) (whole (goal.at.returns c).After-wide_u8-whole);
+          ∙ ap (λ k. spread_out (get_or a.kinds.now top false) (get_or a.starts.now top 0) k (take a.count a.parts.now) ++ others)
+          (whole (goal.at.returns c).After-wide_u8-whole);
       field = g.fields_after;
       one_field = g.height_value.1;
       one_group = g.height_value.2;
