@@ -8,8 +8,8 @@ ghost use Rattle.ordersheet.specs.Reading.{buffer_size, clamp_len, told, MoreRea
 
 use analysis::LONGEST_SHEET;
 use printer::outcome;
-use std::io::{Read, Stdin, Write};
-use std::{io, str};
+use std::io;
+use std::io::{Read, Stdin};
 
 // What a read gave: the error where it failed, how many bytes it read, and how many the buffer holds then.
 #[derive(Drop)]
@@ -79,22 +79,9 @@ fn text_of(input: Taken, buf: &[u8], text: &mut [u8; 40000]) -> usize
     outcome::sheet_text(&buf[..len], text)
 }
 
-// A line on standard error: the call that failed, and the error's text, without the number that std adds.
-fn tell(rt: &impl Eprint, call: &str, error: io::Error) -> io::Result<()> {
-    let mut text = [0u8; 256];
-    let mut rest = &mut text[..];
-    write!(rest, "{error}")?;
-    let whole = str::from_utf8(&text).unwrap_or("");
-    let why = match whole.split_once(" (os error ") {
-        Some((why, _)) => why,
-        None => whole.trim_end_matches('\0'),
-    };
-    eprintln!(rt; "{call}: {why}")
-}
-
 fn write_text(rt: &(impl Print + Eprint), text: &[u8]) {
     if let Err(error) = rt.write_all(text) {
-        let _ = tell(rt, "write", error);
+        let _ = streams::tell(rt, "write", error);
     }
 }
 
@@ -103,7 +90,7 @@ fn main(rt: HostRuntime) {
     let mut sheet = [0u8; LONGEST_SHEET + 1];
     let input = read_input(&mut rt.stdin(), &mut sheet);
     if let Some(error) = input.failed {
-        let _ = tell(&rt, "read", error);
+        let _ = streams::tell(&rt, "read", error);
     }
     let mut text = [0u8; 40000];
     let end = text_of(input, &sheet, &mut text);

@@ -2,12 +2,9 @@
 
 #![tactic(auto)]
 
-ghost use Rattle.std.specs.Prelude.{◌≤◌, IfOk, length};
-
 use printer::outcome;
 use std::env::{Env, FillError};
 use std::fs::File;
-use std::io::{Read, Write};
 use std::{io, str};
 
 fn print_sheet(rt: &impl Print, sheet: &[u8]) -> io::Result<()> {
@@ -111,50 +108,18 @@ fn print_case(rt: &impl Print, path: &[u8], bytes: &[u8]) -> io::Result<()> {
     }
 }
 
-// Opens a file to read it. Its name is UTF-8.
-fn open(rt: &HostRuntime, path: &[u8]) -> io::Result<File> {
-    match str::from_utf8(path) {
-        Ok(name) => File::open(rt, name),
-        Err(_) => Err(io::Error::from(io::ErrorKind::InvalidFilename)),
-    }
-}
-
-// Reads until the file ends or the buffer is full: how many bytes it holds then.
-fn read_full(file: &mut File, buf: &mut [u8]) -> io::Result<usize>
-    ensures { IfOk result (λ n. n ≤ length buf.new) }
-{
-    let mut done = 0;
-    while done < buf.len() {
-        let got = file.read(&mut buf[done..])?;
-        if got == 0 {
-            break;
-        }
-        done += got;
-    }
-    Ok(done)
-}
-
-// A line on standard error: the file, and the error's text, without the number that std adds.
-fn tell(rt: &HostRuntime, path: &[u8], error: io::Error) -> io::Result<()> {
-    let mut text = [0u8; 256];
-    let mut rest = &mut text[..];
-    write!(rest, "{error}")?;
-    let whole = str::from_utf8(&text).unwrap_or("");
-    let why = match whole.split_once(" (os error ") {
-        Some((why, _)) => why,
-        None => whole.trim_end_matches('\0'),
-    };
-    Print::write_all(&rt.stderr(), path)?;
-    eprintln!(rt; ": {why}")
-}
-
+// What a file gives. One that cannot be opened is told of.
 fn file_case(rt: &HostRuntime, path: &[u8]) -> io::Result<()> {
-    let mut file = match open(rt, path) {
+    let Ok(name) = str::from_utf8(path) else {
+        let error = io::Error::from(io::ErrorKind::InvalidFilename);
+        return streams::tell(rt, "a file", error);
+    };
+    let mut file = match File::open(rt, name) {
         Ok(file) => file,
-        Err(error) => return tell(rt, path, error),
+        Err(error) => return streams::tell(rt, name, error),
     };
     let mut bytes = [0u8; 65536];
-    let count = read_full(&mut file, &mut bytes)?;
+    let count = streams::read_full(&mut file, &mut bytes)?;
     print_case(rt, path, &bytes[..count])
 }
 

@@ -3,11 +3,10 @@
 
 #![tactic(auto)]
 
-ghost use Rattle.std.specs.Prelude.{◌≤◌, IfOk, length};
+ghost use Rattle.std.specs.Prelude.{◌≤◌, length};
 
 use sheet::SheetRead;
 use std::io;
-use std::io::{Read, Stdin};
 
 fn number(rt: &impl Print, n: u64) -> io::Result<()> {
     print!(rt; " {n}")
@@ -107,23 +106,8 @@ fn cases(rt: &impl Print, s: &[u8]) -> io::Result<()> {
     Ok(())
 }
 
-// Reads until the input ends or the buffer is full: how many bytes it holds then.
-fn read_full(input: &mut Stdin, buf: &mut [u8]) -> io::Result<usize>
-    ensures { IfOk result (λ n. n ≤ length buf.new) }
-{
-    let mut done = 0;
-    while done < buf.len() {
-        let got = input.read(&mut buf[done..])?;
-        if got == 0 {
-            break;
-        }
-        done += got;
-    }
-    Ok(done)
-}
-
 fn main(rt: HostRuntime) -> io::Result<()> {
     let mut text = [0u8; 65536];
-    let n = read_full(&mut rt.stdin(), &mut text)?;
+    let n = streams::read_full(&mut rt.stdin(), &mut text)?;
     cases(&rt, &text[..n])
 }
