@@ -23,7 +23,7 @@ use Rattle.analysis.specs.Bounds.{longest_sheet}
 use Rattle.analysis.specs.Outcome.{Rooms, roomy, Outcome, sheet_outcome, pair_outcome, record_outcome}
 use Rattle.analysis.specs.Claims.{Yield, Moderate}
 use Rattle.analysis.proofs.Fates.{fate}
-use Rattle.analysis.proofs.Accepted.{fate_yield}
+use Rattle.analysis.proofs.Acceptance.{fate_yield}
 use Rattle.analysis.proofs.Inputs.{sheet_arcs, pair_arcs, record_fate}
 use Rattle.analysis.proofs.Sheets.{arcs, means, sheet_of, fate_none}
 
