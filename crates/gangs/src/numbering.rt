@@ -1,13 +1,11 @@
 //! Gang numbers, over a record's nodes in their order. A group that is begun and not yet left is open. The present one is a Place; the lists `shapes`,
 //! `firsts` and `ends` have those around it, the outermost first.
-ghost use Rattle.std.specs.Prelude.{ℕ, ◌%◌, ◌^◌, ◌≤◌, ◌<◌, max, ◌≡◌, cond, List, ◌∷◌, ltb, replicate};
+ghost use Rattle.std.specs.Prelude.{ℕ, ◌%◌, ◌^◌, ◌≤◌, ◌<◌, ◌≡◌, cond, List, ◌∷◌, ltb, replicate};
 ghost use Rattle.poset.specs.Tree.{Tree};
 ghost use Rattle.record.specs.Bits.{AllBelow};
 ghost use Rattle.record.specs.Layout.{hours_bits};
 ghost use Rattle.reader.specs.Nodes.{Listed};
 ghost use Rattle.gangs.specs.Places.{Open, held, to_come, Done, At, NextChild, Outer, Ready, Takes, AllNumbered};
-
-use record::{wide_u8, wide_u16};
 
 // The present group, and how many stand around it. shape: 128 for a side group, and its children to come after the present one. at: the first gang
 // of the present child. end: one past the last gang of the group so far.
@@ -17,18 +15,6 @@ pub struct Place {
     pub shape: u8,
     pub at: u8,
     pub end: u8,
-}
-
-fn long(x: u16) -> u32
-    ensures { result ≡ x }
-{
-    x as u32
-}
-
-fn larger(a: u8, b: u8) -> u8
-    ensures { result ≡ max a b }
-{
-    if a < b { b } else { a }
 }
 
 // The place after a child that is done: its group's next child, or that of the nearest group around it that has one to come.
@@ -58,7 +44,7 @@ fn outer(place: Place, shapes: &[u8; 128], firsts: &[u8; 128], ends: &[u8; 128])
         depth: depth,
         shape: shapes[depth],
         at: firsts[depth],
-        end: larger(ends[depth], place.end),
+        end: ends[depth].max(place.end),
     }
 }
 
@@ -103,13 +89,13 @@ fn taken(
 {
     if token < 256 {
         gangs[token] = place.at;
-        let g = wide_u8(place.at);
-        hours[g] = hours[g] + long(jobs[token]);
+        let g = usize::from(place.at);
+        hours[g] = hours[g] + u32::from(jobs[token]);
         let done = Place {
             depth: place.depth,
             shape: place.shape,
             at: place.at,
-            end: larger(place.end, place.at + 1),
+            end: place.end.max(place.at + 1),
         };
         return onward(done, shapes, firsts, ends);
     }
@@ -150,7 +136,7 @@ pub fn numbered(
     };
     let mut i = 0;
     while i < count {
-        let token = wide_u16(tokens[i]);
+        let token = usize::from(tokens[i]);
         let on = taken(
             token,
             jobs,
@@ -164,5 +150,5 @@ pub fn numbered(
         place = on;
         i += 1;
     }
-    wide_u8(place.end)
+    usize::from(place.end)
 }

@@ -2,8 +2,6 @@
 ghost use Rattle.std.specs.Prelude.{ℕ, ◌≡◌, List};
 ghost use Rattle.longest.specs.Stack.{Linked, Shown};
 
-use record::wide_u8;
-
 // How many, and these; then zeros.
 #[derive(Clone, Copy)]
 pub struct Showing {
@@ -21,7 +19,7 @@ pub fn shown(next: &[u8; 128], first: u8, last: u8) -> Showing
     let mut present = first;
     while present != last {
         jobs[count] = present;
-        present = next[wide_u8(present)];
+        present = next[usize::from(present)];
         count += 1;
     }
     jobs[count] = last;

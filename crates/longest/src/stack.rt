@@ -8,20 +8,12 @@ ghost use Rattle.reader.specs.Nodes.{Listed, Step, Fits};
 ghost use Rattle.longest.specs.Longest.{WorkRun, longest};
 ghost use Rattle.longest.specs.Stack.{runs, Beside, Joins, Stacked, Stacks, Found};
 
-use record::{wide_u8, wide_u16};
-
 // The hours together, and the ends of the run.
 #[derive(Clone, Copy)]
 pub struct Run {
     pub total: u32,
     pub first: u8,
     pub last: u8,
-}
-
-fn total_of(x: u16) -> u32
-    ensures { result ≡ x }
-{
-    x as u32
 }
 
 // The runs from `top` to `end` one after the other, at `end`.
@@ -44,7 +36,7 @@ fn chain(
     while k > top {
         k -= 1;
         let last = lasts[k];
-        next[wide_u8(last)] = first;
+        next[usize::from(last)] = first;
         first = firsts[k];
         total += totals[k];
     }
@@ -98,7 +90,7 @@ fn taken(
 {
     if token < 256 {
         let at = top - 1;
-        totals[at] = total_of(hours[token]);
+        totals[at] = u32::from(hours[token]);
         firsts[at] = token as u8;
         lasts[at] = token as u8;
         return at;
@@ -131,7 +123,7 @@ pub fn longest(
     while i > 0 {
         i -= 1;
         let on = taken(
-            wide_u16(tokens[i]),
+            usize::from(tokens[i]),
             hours,
             top,
             &mut totals,

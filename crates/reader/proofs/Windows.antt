@@ -34,10 +34,10 @@ byte_at : (bytes : List ℕ) (i : ℕ) → i < length bytes → drop (8 * i) (bi
 unfolding bits_of
 byte_at bytes i h = drop_bytes i bytes ∙ ap bits_of (drop-cons bytes i 0 h)
 
-pub byte_field : (bytes : List ℕ) (i x : ℕ) → i < length bytes → x ≡ get_or bytes i 0 → x < 256 → FieldAt (bits_of bytes) (8 * i) 8 x
+pub byte_field : (bytes : List ℕ) (i x : ℕ) → i < length bytes → x ≡ get_or bytes i 0 → get_or bytes i 0 < 256 → FieldAt (bits_of bytes) (8 * i) 8 x
 byte_field bytes i x h e l = record {
   stands = at_of (bits 8 x) _ (omega (arith, length_bits_of bytes)) (byte_at bytes i h ∙ ap (λ (b : ℕ). bits 8 b ++ bits_of (drop (suc i) bytes)) (sym e));
-  small = l;
+  small = omega (arith, e, l);
 }
 
 -- a number's bits are those of its high part and those of its low one

@@ -4,7 +4,6 @@ ghost use Rattle.poset.specs.Lists.{occurrences, ahead_in};
 ghost use Rattle.relation.specs.Table.{holds};
 ghost use Rattle.record.specs.Bits.{AllBelow};
 
-use record::wide_u8;
 use relation::set;
 
 // For each job those that stand later in the first n entries, from the last entry back.
@@ -18,7 +17,7 @@ fn later(list: &[u8; 128], n: usize) -> [[u64; 2]; 128]
     let mut i = n;
     while i > 0 {
         i -= 1;
-        let job = wide_u8(list[i]);
+        let job = usize::from(list[i]);
         rows[job] = passed;
         let more = set::union(passed, set::only(job));
         passed = more;
@@ -40,7 +39,7 @@ pub fn order_of(forward: &[u8; 128], reverse: &[u8; 128], n: usize) -> [[u64; 2]
     let mut i = n;
     while i > 0 {
         i -= 1;
-        let job = wide_u8(reverse[i]);
+        let job = usize::from(reverse[i]);
         rows[job] = set::intersection(rows[job], passed);
         let more = set::union(passed, set::only(job));
         passed = more;

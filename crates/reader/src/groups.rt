@@ -8,13 +8,12 @@ ghost use Rattle.reader.specs.Parts.{place, Ready, TreeRead, ChildRead, Children
 
 use crate::nodes::node_at;
 use crate::parts::{Part, chained, leaf, outranks, refused, sided, unread};
-use record::wide_u8;
 
 // Where the next node begins.
 pub fn place(done: u8, groups: u8) -> usize
     ensures { result ≡ place done groups }
 {
-    7 + record::LEAF_BITS * wide_u8(done) + 9 * wide_u8(groups)
+    7 + record::LEAF_BITS * usize::from(done) + 9 * usize::from(groups)
 }
 
 // `more` + 1 children of a chain.

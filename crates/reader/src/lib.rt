@@ -21,7 +21,7 @@ use groups::{place, tree};
 use listing::list_nodes;
 use nodes::{field, filled};
 use parts::{Part, refused};
-use record::{NODE_ROOM, RECORD_ROOM, wide_u8};
+use record::{NODE_ROOM, RECORD_ROOM};
 
 // ok: whether the bytes are a record. Then the job count, the number of groups, the sequences and the hours of each job, whose
 // entries from the count on are 0; all 0 otherwise.
@@ -57,7 +57,7 @@ fn in_turn(next: &[u8; 128], first: usize, count: usize) -> [u8; 128]
     let mut job = first;
     for i in 0..count {
         jobs[i] = job as u8;
-        job = wide_u8(next[job]);
+        job = usize::from(next[job]);
     }
     jobs
 }

@@ -5,8 +5,6 @@ ghost use Rattle.record.specs.Layout.{most_record_bytes};
 ghost use Rattle.record.specs.Decode.{fills};
 ghost use Rattle.reader.specs.Fields.{FieldAt, LeafAt, NodeAt};
 
-use record::wide_u8;
-
 // What a node begins with. tag: 0 a leaf, 1 a series group, 2 a parallel group, 3 none: the bits end, or a group has one
 // child. value: the job, or the children minus 1. hours: the job's.
 #[derive(Clone, Copy)]
@@ -21,7 +19,7 @@ fn pair(bytes: &[u8], i: usize) -> usize
     requires { (i + 2 ≤ length bytes.now) × (length bytes.now ≤ most_record_bytes) }
     ensures { FieldAt (bits_of bytes.now) (8 * i) 16 result }
 {
-    wide_u8(bytes[i]) * 256 + wide_u8(bytes[i + 1])
+    usize::from(bytes[i]) * 256 + usize::from(bytes[i + 1])
 }
 
 // The number in the `width` bits from `at` on, of at most 9 bits: two bytes hold them.
@@ -32,7 +30,7 @@ pub fn field(bytes: &[u8], at: usize, width: usize) -> usize
     let i = at / 8;
     let end = at % 8 + width;
     if end <= 8 {
-        return (wide_u8(bytes[i]) >> (8 - end)) % (1usize << width);
+        return (usize::from(bytes[i]) >> (8 - end)) % (1usize << width);
     }
     (pair(bytes, i) >> (16 - end)) % (1usize << width)
 }
@@ -54,7 +52,7 @@ fn leaf_at(bytes: &[u8], at: usize) -> usize
     if 8 * bytes.len() < at + record::LEAF_BITS {
         return 1usize << (record::LEAF_BITS - 1);
     }
-    let three = pair(bytes, i) * 256 + wide_u8(bytes[i + 2]);
+    let three = pair(bytes, i) * 256 + usize::from(bytes[i + 2]);
     (three >> (24 - end)) % (1usize << record::LEAF_BITS)
 }
 

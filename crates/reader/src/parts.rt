@@ -1,5 +1,5 @@
 //! Parts of a record: what is read of a tree or of the children of a group, and the work lists beside it.
-ghost use Rattle.std.specs.Prelude.{◌≡◌, true, ◌≤◌, ◌<◌, min};
+ghost use Rattle.std.specs.Prelude.{◌≡◌, true, ◌≤◌, ◌<◌};
 ghost use Rattle.poset.specs.Tree.{series, parallel, outranks};
 ghost use Rattle.reader.specs.Parts.{unread_part, refused_part, LeafRead, longer, longer_next};
 
@@ -87,12 +87,6 @@ pub fn outranks(size: u8, least: u8, jobs: u8, smallest: u8) -> bool
     }
 }
 
-fn smaller(a: u8, b: u8) -> u8
-    ensures { result ≡ min a b }
-{
-    if a < b { a } else { b }
-}
-
 // The children of a chain that were read, which are none if `part` is not ok, and the next one, which follows them in the reverse sequence.
 pub fn chained(part: Part, child: Part, next: &mut [u8; 128]) -> Part
     requires { part.ok ≡ true → part.last < 128 }
@@ -107,7 +101,7 @@ pub fn chained(part: Part, child: Part, next: &mut [u8; 128]) -> Part
         ok: true,
         done: child.done,
         groups: child.groups,
-        least: smaller(part.least, child.least),
+        least: part.least.min(child.least),
         first: part.first,
         last: child.last,
     }
@@ -127,7 +121,7 @@ pub fn sided(part: Part, child: Part, next: &mut [u8; 128]) -> Part
         ok: true,
         done: child.done,
         groups: child.groups,
-        least: smaller(part.least, child.least),
+        least: part.least.min(child.least),
         first: child.first,
         last: part.last,
     }

@@ -8,7 +8,6 @@ ghost use Rattle.std.specs.Prelude.{◌≡◌};
 ghost use Rattle.reason.specs.Outcome.{reason_outcome, Shows};
 
 use analysis::Verdict;
-use record::wide_u16;
 
 // The answer, the rule (1 the same job, 2 the first before the second, 3 the second before the first, 4 free), the position of the lowest group over
 // both jobs, in nodes from 0, and how many jobs are under it; of one job, its leaf's. A refusal has zeros.
@@ -35,8 +34,8 @@ fn turned_away(verdict: Verdict) -> Reason
 pub fn reason_between(bytes: &[u8], first: u16, second: u16) -> Reason
     ensures { Shows (reason_outcome bytes.now first second) result }
 {
-    let u = wide_u16(first);
-    let v = wide_u16(second);
+    let u = usize::from(first);
+    let v = usize::from(second);
     let read = reader::read_nodes(bytes);
     if !read.ok {
         return turned_away(Verdict::NoRecord);

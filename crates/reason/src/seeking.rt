@@ -1,11 +1,9 @@
 //! The lowest node over two jobs, over a record's nodes from the last to the first. The nodes taken so far are trees in a row; the one taken last begins
 //! the first of them, which is over both jobs exactly where the row has both and the trees after it have neither.
-ghost use Rattle.std.specs.Prelude.{min, ◌≡◌, cond, List, [], ◌∷◌, eqb, length};
+ghost use Rattle.std.specs.Prelude.{◌≡◌, cond, List, [], ◌∷◌, eqb, length};
 ghost use Rattle.poset.specs.Tree.{Tree, leaves};
 ghost use Rattle.reader.specs.Nodes.{Step, Fits};
 ghost use Rattle.reason.specs.Rows.{marked, Rowed, Takes, rule_by, Sought, Decided, Ahead};
-
-use record::wide_u16;
 
 // height: how many trees. low: how many from the last one on that has one of the jobs, or all where none has. mark: 7 neither job is in the row,
 // 5 the first alone, 6 the second alone; both are: 1 they are one job, 2 the first stands ahead of the second, 3 behind it.
@@ -52,12 +50,6 @@ fn raised(row: Row, height: usize) -> usize
     if row.mark == 7 { height } else { row.low }
 }
 
-fn smaller(a: usize, b: usize) -> usize
-    ensures { result ≡ min a b }
-{
-    if a < b { a } else { b }
-}
-
 // One node more, by its token: a leaf is one tree more, a group takes the place of its children.
 fn taken(token: usize, row: Row, first: usize, second: usize) -> Row
     requires { (ts us : List Tree) × Step token ts us × Fits us × Rowed first second ts row }
@@ -74,7 +66,7 @@ fn taken(token: usize, row: Row, first: usize, second: usize) -> Row
     let height = row.height - token % 128;
     Row {
         height: height,
-        low: smaller(row.low, height),
+        low: row.low.min(height),
         mark: row.mark,
     }
 }
@@ -104,11 +96,11 @@ pub fn lowest(
     let mut i = count;
     while 3 < row.mark || row.low < row.height {
         i -= 1;
-        let on = taken(wide_u16(tokens[i]), row, first, second);
+        let on = taken(usize::from(tokens[i]), row, first, second);
         row = on;
     }
     Decision {
-        rule: rule(wide_u16(tokens[i]), row.mark),
+        rule: rule(usize::from(tokens[i]), row.mark),
         position: i,
     }
 }
@@ -122,7 +114,7 @@ pub fn jobs_under(tokens: &[u16; record::NODE_ROOM], at: usize) -> usize
     let mut jobs = 0;
     let mut i = at;
     while trees > 0 {
-        let token = wide_u16(tokens[i]);
+        let token = usize::from(tokens[i]);
         if token < 256 {
             trees -= 1;
             jobs += 1;

@@ -2,8 +2,6 @@
 
 #![tactic(auto)]
 
-ghost use Rattle.std.specs.Prelude.{◌<◌, ◌≡◌};
-
 // No record has more bytes.
 pub const RECORD_ROOM: usize = 464;
 
@@ -18,17 +16,3 @@ pub const LEAF_BITS: usize = 8 + HOURS_BITS;
 
 // The most hours that a job may have.
 pub const MOST_HOURS: u16 = (1 << HOURS_BITS) - 1;
-
-// A byte as a number that counts and is an index.
-pub fn wide_u8(x: u8) -> usize
-    ensures { (result ≡ x) × (result < 256) }
-{
-    x as usize
-}
-
-// The same of 16 bits.
-pub fn wide_u16(x: u16) -> usize
-    ensures { result ≡ x }
-{
-    x as usize
-}

@@ -65,7 +65,7 @@ fn put_field(
 {
     if field < 128 {
         let job = taken(p, 8, field);
-        let leaf = taken(job, record::HOURS_BITS, record::wide_u16(hours[field]));
+        let leaf = taken(job, record::HOURS_BITS, usize::from(hours[field]));
         let one = moved(bytes, leaf);
         let two = moved(bytes, one);
         moved_if_full(bytes, two)
@@ -111,7 +111,7 @@ pub fn pack(n: usize, fields: &[u16], hours: &[u16; 128]) -> Packed
     };
     let mut i = 0;
     while i < fields.len() {
-        let next = put_field(&mut bytes, p, record::wide_u16(fields[i]), hours);
+        let next = put_field(&mut bytes, p, usize::from(fields[i]), hours);
         p = next;
         i += 1;
     }

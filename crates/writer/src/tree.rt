@@ -50,7 +50,7 @@ fn push(
         i -= 1;
         let part = parts[i];
         let own = jobs[i];
-        let size = record::wide_u8(own);
+        let size = usize::from(own);
         starts[top] = start_of(g, later, size);
         stack[top] = part;
         kinds[top] = !series;
@@ -169,7 +169,7 @@ fn spread(
     let top = p.height - 1;
     let series = kinds[top];
     let start = starts[top];
-    let whole = record::wide_u8(sizes[top]);
+    let whole = usize::from(sizes[top]);
     let g = Group {
         series,
         start,
@@ -284,7 +284,7 @@ fn turn(
 {
     let top = p.height - 1;
     let s = stack[top];
-    let whole = record::wide_u8(sizes[top]);
+    let whole = usize::from(sizes[top]);
     if whole == 1 {
         let next = put_leaf(fields, forward, reverse, starts, s, p);
         return Step { ok: true, p: next };

@@ -25,7 +25,7 @@ bounds-next-job c = job-in (goal.at.bounds-next-job c).In-loop-i
 pub loop-i-preserved : goal.loop-i-preserved
 loop-i-preserved c =
     subst (λ (j : ℕ). Walked c.args.next.now c.args.first c.args.count (c.loop-i.i + 1) j (set c.loop-i.jobs c.loop-i.i c.loop-i.job))
-    (sym c.wide_u8-job.ensures.0)
+    (sym c.from-job.ensures)
     (walked_more c.args.next.now c.args.first c.args.count
     c.loop-i.i c.loop-i.job c.loop-i.jobs c.loop-i.invariant c.requires.0 c.loop-i-test.true)
 

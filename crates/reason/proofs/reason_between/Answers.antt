@@ -15,7 +15,7 @@ read_tree_lem c =
 
 -- both job numbers are below the count
 seeks : (c : goal.Else-v-read) (d : Decoded c.args.bytes.now c.read_nodes-read.result)
-    → Sought c.wide_u16-u.result c.wide_u16-v.result d.tree c.read_nodes-read.result.tokens c.read_nodes-read.result.count
+    → Sought c.from-u.result c.from-v.result d.tree c.read_nodes-read.result.tokens c.read_nodes-read.result.count
 seeks c d = sought d _ _ c.if-u-read.false c.if-v-read.false
 
 pub returns-then-not-read : goal.returns-then-not-read
@@ -25,7 +25,7 @@ returns-then-not-read c =
 pub returns-then-u-read : goal.returns-then-u-read
 returns-then-u-read c =
     rw c.turned_away-then-u-read.ensures
-    (rw (c.wide_u16-u.ensures, c.wide_u16-v.ensures) at
+    (rw (c.from-u.ensures, c.from-v.ensures) at
     (shows_14 (read_tree_lem (goal.at.returns-then-u-read c).Else-not-read) _ _
     (elim c.then-u-read.branch [
       | then-u-read-via-then-u-read w ↦ inl w.if-u-read.true
@@ -47,5 +47,5 @@ returns c =
     let at = goal.at.returns c in
     let d = read_tree_lem at.Else-not-read in
     let found = c.lowest-found.ensures _ (seeks at.Else-v-read d) in
-    rw (c.wide_u16-u.ensures, c.wide_u16-v.ensures) at
+    rw (c.from-u.ensures, c.from-v.ensures) at
     (shows_reason d _ _ c.if-u-read.false c.if-v-read.false found _ (c.jobs_under.ensures _ found.ahead))

@@ -23,7 +23,7 @@ bounds-tokens-i c = in-room (goal.at.bounds-tokens-i c).In-loop-i
 pub taken-on-requires : goal.taken-on-requires
 taken-on-requires c =
     let (t, l) = c.requires.3 in
-    (c.requires.0, (t, _, ready_node t _ _ l _ _ _ _ _ _ c.loop-i-test.true _ c.wide_u16-token.ensures (c.loop-i.invariant t l)))
+    (c.requires.0, (t, _, ready_node t _ _ l _ _ _ _ _ _ c.loop-i-test.true _ c.from-token.ensures (c.loop-i.invariant t l)))
 
 pub overflow_add-i : goal.overflow_add-i
 overflow_add-i c = omega (arith, in-room (goal.at.overflow_add-i c).In-loop-i)
@@ -33,8 +33,8 @@ loop-i-smaller c = omega (arith, c.loop-i-test.true)
 
 pub loop-i-preserved : goal.loop-i-preserved
 loop-i-preserved c = λ t l.
-    c.taken-on.ensures t _ (ready_node t _ _ l _ _ _ _ _ _ c.loop-i-test.true _ c.wide_u16-token.ensures (c.loop-i.invariant t l))
+    c.taken-on.ensures t _ (ready_node t _ _ l _ _ _ _ _ _ c.loop-i-test.true _ c.from-token.ensures (c.loop-i.invariant t l))
 
 pub returns : goal.returns
 returns c = λ t l.
-    ready_last t _ _ l _ _ _ _ _ _ c.loop-i-test.false (c.loop-i.invariant t l) _ c.wide_u8.ensures.0
+    ready_last t _ _ l _ _ _ _ _ _ c.loop-i-test.false (c.loop-i.invariant t l) _ c.from.ensures

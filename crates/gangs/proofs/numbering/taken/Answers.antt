@@ -23,10 +23,10 @@ pub bounds-gangs-token : goal.bounds-gangs-token
 bounds-gangs-token c = (leaf-low (goal.at.bounds-gangs-token c).Then-token-lt256).1
 
 pub offset_bounds-hours-g : goal.offset_bounds-hours-g
-offset_bounds-hours-g c = omega (arith, c.wide_u8-g.ensures.0, leaf-low (goal.at.offset_bounds-hours-g c).Then-token-lt256)
+offset_bounds-hours-g c = omega (arith, c.from-g.ensures, leaf-low (goal.at.offset_bounds-hours-g c).Then-token-lt256)
 
 pub bounds-hours-g : goal.bounds-hours-g
-bounds-hours-g c = omega (arith, c.wide_u8-g.ensures.0, leaf-low (goal.at.bounds-hours-g c).Then-token-lt256)
+bounds-hours-g c = omega (arith, c.from-g.ensures, leaf-low (goal.at.bounds-hours-g c).Then-token-lt256)
 
 pub offset_bounds-jobs-token : goal.offset_bounds-jobs-token
 offset_bounds-jobs-token c = omega (arith, leaf-low (goal.at.offset_bounds-jobs-token c).Then-token-lt256)
@@ -37,14 +37,14 @@ bounds-jobs-token c = (leaf-low (goal.at.bounds-jobs-token c).Then-token-lt256).
 pub overflow_add-hours : goal.overflow_add-hours
 overflow_add-hours c =
     let (t, xs, ready) = c.requires.1 in
-    rw (c.wide_u8-g.ensures.0, c.long.ensures)
+    rw (c.from-g.ensures, c.from.ensures)
     (omega (arith, hours_low t _ c.requires.0 _ _ _ xs _ _ ready c.if-token-lt256.true))
 
 pub offset_bounds-hours-g-then-token-lt256 : goal.offset_bounds-hours-g-then-token-lt256
-offset_bounds-hours-g-then-token-lt256 c = omega (arith, c.wide_u8-g.ensures.0, leaf-low (goal.at.offset_bounds-hours-g-then-token-lt256 c).Then-token-lt256)
+offset_bounds-hours-g-then-token-lt256 c = omega (arith, c.from-g.ensures, leaf-low (goal.at.offset_bounds-hours-g-then-token-lt256 c).Then-token-lt256)
 
 pub bounds-hours-g-then-token-lt256 : goal.bounds-hours-g-then-token-lt256
-bounds-hours-g-then-token-lt256 c = omega (arith, c.wide_u8-g.ensures.0, leaf-low (goal.at.bounds-hours-g-then-token-lt256 c).Then-token-lt256)
+bounds-hours-g-then-token-lt256 c = omega (arith, c.from-g.ensures, leaf-low (goal.at.bounds-hours-g-then-token-lt256 c).Then-token-lt256)
 
 pub overflow_add-place : goal.overflow_add-place
 overflow_add-place c = omega (arith, leaf-low (goal.at.overflow_add-place c).Then-token-lt256)
@@ -52,13 +52,13 @@ overflow_add-place c = omega (arith, leaf-low (goal.at.overflow_add-place c).The
 pub onward-requires : goal.onward-requires
 onward-requires c =
     let (t, xs, ready) = c.requires.1 in
-    let (o, d, e) = done t _ c.requires.0 _ _ _ xs _ _ ready c.if-token-lt256.true _ refl refl refl c.larger.ensures in
+    let (o, d, e) = done t _ c.requires.0 _ _ _ xs _ _ ready c.if-token-lt256.true _ refl refl refl c.max.ensures in
     (t, o, _, d)
 
 pub returns-then-token-lt256 : goal.returns-then-token-lt256
 returns-then-token-lt256 c = λ t xs ready.
-    let (o, d, e) = done t _ c.requires.0 _ _ _ xs _ _ ready c.if-token-lt256.true _ refl refl refl c.larger.ensures in
-    rw (c.wide_u8-g.ensures.0, c.long.ensures)
+    let (o, d, e) = done t _ c.requires.0 _ _ _ xs _ _ ready c.if-token-lt256.true _ refl refl refl c.max.ensures in
+    rw (c.from-g.ensures, c.from.ensures)
     (leaf_taken t _ c.requires.0 _ _ _ xs _ _ ready c.if-token-lt256.true _ (subst (At t _ c.onward.result) e (c.onward.ensures t o _ d)))
 
 pub bounds-shapes-depth : goal.bounds-shapes-depth

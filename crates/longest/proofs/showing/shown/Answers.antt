@@ -14,10 +14,10 @@ loop-present-init c = λ xs l. showed_none _ _ _ xs l
 pub bounds-jobs-count : goal.bounds-jobs-count
 bounds-jobs-count c = in-room (goal.at.bounds-jobs-count c).At-loop-present
 
-pub bounds-next-wide_u8 : goal.bounds-next-wide_u8
-bounds-next-wide_u8 c =
+pub bounds-next-from : goal.bounds-next-from
+bounds-next-from c =
     let (xs, l) = c.requires in
-    rw c.wide_u8.ensures.0 (job_small _ _ _ xs l _ _ _ (c.loop-present.invariant xs l))
+    rw c.from.ensures (job_small _ _ _ xs l _ _ _ (c.loop-present.invariant xs l))
 
 pub overflow_add-count : goal.overflow_add-count
 overflow_add-count c = omega (arith, in-room (goal.at.overflow_add-count c).At-loop-present)
@@ -28,7 +28,7 @@ loop-present-smaller c = omega (arith, in-room (goal.at.loop-present-smaller c).
 pub loop-present-preserved : goal.loop-present-preserved
 loop-present-preserved c =
     λ xs l.
-    rw c.wide_u8.ensures.0 (showed_more _ _ _ xs l _ _ _ (c.loop-present.invariant xs l) c.loop-present-test.true)
+    rw c.from.ensures (showed_more _ _ _ xs l _ _ _ (c.loop-present.invariant xs l) c.loop-present-test.true)
 
 pub bounds-jobs-count-2 : goal.bounds-jobs-count-2
 bounds-jobs-count-2 c = in-room (goal.at.bounds-jobs-count-2 c).At-loop-present

@@ -53,8 +53,8 @@ module _ (q : goal.In-loop-k) where
 pub bounds-lasts-k : goal.bounds-lasts-k
 bounds-lasts-k c = omega (arith, within (goal.at.bounds-lasts-k c).In-loop-k)
 
-pub bounds-next-wide_u8 : goal.bounds-next-wide_u8
-bounds-next-wide_u8 c = subst (λ (x : ℕ). x < 128) (sym c.wide_u8.ensures.0) (link (goal.at.bounds-next-wide_u8 c).In-loop-k)
+pub bounds-next-from : goal.bounds-next-from
+bounds-next-from c = subst (λ (x : ℕ). x < 128) (sym c.from.ensures) (link (goal.at.bounds-next-from c).In-loop-k)
 
 pub bounds-firsts-k : goal.bounds-firsts-k
 bounds-firsts-k c = omega (arith, within (goal.at.bounds-firsts-k c).In-loop-k)
@@ -69,7 +69,7 @@ pub overflow_add-total : goal.overflow_add-total
 overflow_add-total c = omega (arith, low (goal.at.overflow_add-total c).In-loop-k)
 
 pub loop-k-preserved : goal.loop-k-preserved
-loop-k-preserved c = again (goal.at.loop-k-preserved c).In-loop-k c.wide_u8.result c.wide_u8.ensures.0
+loop-k-preserved c = again (goal.at.loop-k-preserved c).In-loop-k c.from.result c.from.ensures
 
 pub bounds-totals-end-2 : goal.bounds-totals-end-2
 bounds-totals-end-2 c = c.requires.1.inside

@@ -29,7 +29,7 @@ taken-on-requires c =
       (
         pending c.loop-i.i (spells t),
         pending (c.loop-i.i - 1) (spells t),
-        rw c.wide_u16.ensures (row_step t _ _ l _ c.loop-i-test.true inside),
+        rw c.from.ensures (row_step t _ _ l _ c.loop-i-test.true inside),
         row_fits t _ _ l (c.loop-i.i - 1),
         stacked t l,
       ),
@@ -41,7 +41,7 @@ loop-i-preserved c =
       omega arith,
       λ t l.
           c.taken-on.ensures (pending c.loop-i.i (spells t)) (pending (c.loop-i.i - 1) (spells t))
-          (rw c.wide_u16.ensures (row_step t _ _ l _ c.loop-i-test.true inside))
+          (rw c.from.ensures (row_step t _ _ l _ c.loop-i-test.true inside))
           (row_fits t _ _ l (c.loop-i.i - 1)) (stacked t l),
     )
 

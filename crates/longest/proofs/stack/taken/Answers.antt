@@ -36,7 +36,7 @@ pub returns-then-token-lt256 : goal.returns-then-token-lt256
 returns-then-token-lt256 c =
     let s = (goal.at.returns-then-token-lt256 c).Start in
     let a = s.args in λ ts us step fits stacked.
-    rw c.total_of.ensures
+    rw c.from.ensures
     (taken_leaf (hours_of a.hours.now) (hours_most a.hours.now s.requires.0) a.top (lent s) a.token c.if-token-lt256.true ts us step fits stacked).2
 
 pub chain-requires : goal.chain-requires

@@ -26,20 +26,20 @@ pub bounds-list-i : goal.bounds-list-i
 bounds-list-i c = omega (arith, (job-entry (goal.at.bounds-list-i c).In-loop-i).0, c.requires.0)
 
 pub offset_bounds-rows-job : goal.offset_bounds-rows-job
-offset_bounds-rows-job c = omega (arith, (job-entry (goal.at.offset_bounds-rows-job c).In-loop-i).2, c.wide_u8-job.ensures)
+offset_bounds-rows-job c = omega (arith, (job-entry (goal.at.offset_bounds-rows-job c).In-loop-i).2, c.from-job.ensures)
 
 pub bounds-rows-job : goal.bounds-rows-job
-bounds-rows-job c = omega (arith, (job-entry (goal.at.bounds-rows-job c).In-loop-i).2, c.wide_u8-job.ensures)
+bounds-rows-job c = omega (arith, (job-entry (goal.at.bounds-rows-job c).In-loop-i).2, c.from-job.ensures)
 
 pub only-requires : goal.only-requires
-only-requires c = omega (arith, (job-entry (goal.at.only-requires c).In-loop-i).2, c.wide_u8-job.ensures)
+only-requires c = omega (arith, (job-entry (goal.at.only-requires c).In-loop-i).2, c.from-job.ensures)
 
 pub loop-i-preserved : goal.loop-i-preserved
 loop-i-preserved c =
     let l = c.loop-i in
-    let w = c.wide_u8-job in
+    let w = c.from-job in
     later_more (take c.args.n c.args.list.now) l.i l.rows l.passed l.invariant c.loop-i-test.true
-    w.result (w.ensures.0 ∙ (job-entry (goal.at.loop-i-preserved c).In-loop-i).1) c.only.result c.union-more.result
+    w.result (w.ensures ∙ (job-entry (goal.at.loop-i-preserved c).In-loop-i).1) c.only.result c.union-more.result
     (omega (arith, (job-entry (goal.at.loop-i-preserved c).In-loop-i).2, w.ensures)) c.only.ensures c.union-more.ensures
 
 pub returns : goal.returns

@@ -32,19 +32,19 @@ pub bounds-reverse-i : goal.bounds-reverse-i
 bounds-reverse-i c = omega (arith, (job-entry (goal.at.bounds-reverse-i c).In-loop-i).0, c.requires.n_bound.0)
 
 pub offset_bounds-rows-job : goal.offset_bounds-rows-job
-offset_bounds-rows-job c = omega (arith, (job-entry (goal.at.offset_bounds-rows-job c).In-loop-i).2, c.wide_u8-job.ensures)
+offset_bounds-rows-job c = omega (arith, (job-entry (goal.at.offset_bounds-rows-job c).In-loop-i).2, c.from-job.ensures)
 
 pub bounds-rows-job : goal.bounds-rows-job
-bounds-rows-job c = omega (arith, (job-entry (goal.at.bounds-rows-job c).In-loop-i).2, c.wide_u8-job.ensures)
+bounds-rows-job c = omega (arith, (job-entry (goal.at.bounds-rows-job c).In-loop-i).2, c.from-job.ensures)
 
 pub offset_bounds-rows-job-in-loop-i : goal.offset_bounds-rows-job-in-loop-i
-offset_bounds-rows-job-in-loop-i c = omega (arith, (job-entry (goal.at.offset_bounds-rows-job-in-loop-i c).In-loop-i).2, c.wide_u8-job.ensures)
+offset_bounds-rows-job-in-loop-i c = omega (arith, (job-entry (goal.at.offset_bounds-rows-job-in-loop-i c).In-loop-i).2, c.from-job.ensures)
 
 pub bounds-rows-job-in-loop-i : goal.bounds-rows-job-in-loop-i
-bounds-rows-job-in-loop-i c = omega (arith, (job-entry (goal.at.bounds-rows-job-in-loop-i c).In-loop-i).2, c.wide_u8-job.ensures)
+bounds-rows-job-in-loop-i c = omega (arith, (job-entry (goal.at.bounds-rows-job-in-loop-i c).In-loop-i).2, c.from-job.ensures)
 
 pub only-requires : goal.only-requires
-only-requires c = omega (arith, (job-entry (goal.at.only-requires c).In-loop-i).2, c.wide_u8-job.ensures)
+only-requires c = omega (arith, (job-entry (goal.at.only-requires c).In-loop-i).2, c.from-job.ensures)
 
 pub loop-i-preserved : goal.loop-i-preserved
 unfolding holds
@@ -52,9 +52,9 @@ loop-i-preserved c =
     let l = c.loop-i in
     both_more (λ u v. ahead_in u v (take c.args.n c.args.forward.now)) (take c.args.n c.args.reverse.now)
     (λ u. omega (arith, c.requires.all_below.1 u, c.requires.all_below.2 u))
-    l.i l.rows l.passed l.invariant c.loop-i-test.true c.wide_u8-job.result (c.wide_u8-job.ensures.0 ∙ (job-entry (goal.at.loop-i-preserved c).In-loop-i).1)
+    l.i l.rows l.passed l.invariant c.loop-i-test.true c.from-job.result (c.from-job.ensures ∙ (job-entry (goal.at.loop-i-preserved c).In-loop-i).1)
     c.only.result c.union-more.result c.intersection.result
-    (omega (arith, (job-entry (goal.at.loop-i-preserved c).In-loop-i).2, c.wide_u8-job.ensures)) c.only.ensures c.union-more.ensures c.intersection.ensures
+    (omega (arith, (job-entry (goal.at.loop-i-preserved c).In-loop-i).2, c.from-job.ensures)) c.only.ensures c.union-more.ensures c.intersection.ensures
 
 pub returns : goal.returns
 returns c =

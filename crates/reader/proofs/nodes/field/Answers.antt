@@ -9,10 +9,10 @@ nonzero_rem-result c = divisor c.args.width c.requires.1
 
 pub returns-then-end-le8 : goal.returns-then-end-le8
 returns-then-end-le8 c =
-    let x = c.wide_u8 in
+    let x = c.from in
     let i = c.args.at / 8 in
     window_shl c.args.at c.args.width 8 x.result c.requires.1
-    (byte_field c.args.bytes.now i x.result (omega (arith, c.requires.0, c.requires.2)) x.ensures.0 x.ensures.1)
+    (byte_field c.args.bytes.now i x.result (omega (arith, c.requires.0, c.requires.2)) x.ensures (c.type_inv.bytes i).fits)
     c.if-end-le8.true
 
 pub nonzero_rem-result-2 : goal.nonzero_rem-result-2

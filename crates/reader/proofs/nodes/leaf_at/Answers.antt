@@ -22,8 +22,8 @@ pub returns : goal.returns
 returns c =
     let at = c.args.at in
     let x = c.pair-2 in
-    let y = c.wide_u8 in
+    let y = c.from in
     let inside = c.if-bytes-at.false in
-    let z = byte_field c.args.bytes.now (at / 8 + 2) y.result (omega (arith, inside)) y.ensures.0 y.ensures.1 in
+    let z = byte_field c.args.bytes.now (at / 8 + 2) y.result (omega (arith, inside)) y.ensures (c.type_inv.bytes (at / 8 + 2)).fits in
     inl (window at leaf_bits 24 _ (further (at / 8) 2 8 x.result y.result x.ensures z)
     (omega (arith, inside, c.if-i-bytes.false)))

@@ -6,9 +6,9 @@ use Rattle.reader.proofs.nodes.pair.Goals as goal
 
 pub returns : goal.returns
 returns c =
-    let x = c.wide_u8 in
-    let y = c.wide_u8-2 in
+    let x = c.from in
+    let y = c.from-2 in
     let bytes = c.args.bytes.now in
     further c.args.i 1 8 x.result y.result
-    (byte_field bytes c.args.i x.result (omega (arith, c.requires.0)) x.ensures.0 x.ensures.1)
-    (byte_field bytes (c.args.i + 1) y.result (omega (arith, c.requires.0)) y.ensures.0 y.ensures.1)
+    (byte_field bytes c.args.i x.result (omega (arith, c.requires.0)) x.ensures (c.type_inv.bytes c.args.i).fits)
+    (byte_field bytes (c.args.i + 1) y.result (omega (arith, c.requires.0)) y.ensures (c.type_inv.bytes (c.args.i + 1)).fits)

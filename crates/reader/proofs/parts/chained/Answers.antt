@@ -10,4 +10,4 @@ pub bounds-next-last : goal.bounds-next-last
 bounds-next-last c = c.requires (not-false _ c.if-not-part.false)
 
 pub returns : goal.returns
-returns c = rw (not-false c.args.part.ok c.if-not-part.false, c.smaller.ensures) (refl, refl)
+returns c = rw (not-false c.args.part.ok c.if-not-part.false, c.min.ensures) (refl, refl)

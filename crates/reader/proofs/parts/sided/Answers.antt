@@ -7,4 +7,4 @@ pub returns-then-not-part : goal.returns-then-not-part
 returns-then-not-part c = rw (not-true c.args.part.ok c.if-not-part.true) (refl, refl)
 
 pub returns : goal.returns
-returns c = rw (not-false c.args.part.ok c.if-not-part.false, c.smaller.ensures) (refl, refl)
+returns c = rw (not-false c.args.part.ok c.if-not-part.false, c.min.ensures) (refl, refl)

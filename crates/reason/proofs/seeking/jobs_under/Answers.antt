@@ -42,7 +42,7 @@ loop-trees-smaller c = omega (arith, in-room (goal.at.loop-trees-smaller c).In-l
 pub loop-trees-preserved : goal.loop-trees-preserved
 loop-trees-preserved c = λ s a.
     let counted = c.loop-trees.invariant s a in
-    let token = c.wide_u16-token.ensures in
+    let token = c.from-token.ensures in
     elim c.if-token-lt256.branch [
       | then-token-lt256 w ↦
           rw (w.trees-is, w.jobs-is) (counted_leaf _ s _ _ _ counted c.loop-trees-test.true (omega (arith, token, w.if-token-lt256.true)))

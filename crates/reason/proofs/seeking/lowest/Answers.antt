@@ -45,7 +45,7 @@ taken-on-requires c =
     let found = c.loop-row.invariant t x in (
       pending c.loop-row.i (spells t),
       pending (c.loop-row.i - 1) (spells t),
-      rw c.wide_u16.ensures (step _ _ t _ _ x _ _ found (goes_on (goal.at.taken-on-requires c).Joined-row-gt3)),
+      rw c.from.ensures (step _ _ t _ _ x _ _ found (goes_on (goal.at.taken-on-requires c).Joined-row-gt3)),
       row_fits t _ _ x.nodes (c.loop-row.i - 1),
       found.rowed,
     )
@@ -58,7 +58,7 @@ loop-row-preserved c = λ t x.
     let found = c.loop-row.invariant t x in
     let on = goes_on (goal.at.loop-row-preserved c).Joined-row-gt3 in
     searched_more _ _ t _ _ x _ _ found on _
-    (c.taken-on.ensures _ _ (rw c.wide_u16.ensures (step _ _ t _ _ x _ _ found on)) (row_fits t _ _ x.nodes (c.loop-row.i - 1)) found.rowed)
+    (c.taken-on.ensures _ _ (rw c.from.ensures (step _ _ t _ _ x _ _ found on)) (row_fits t _ _ x.nodes (c.loop-row.i - 1)) found.rowed)
 
 pub offset_bounds-tokens-i-2 : goal.offset_bounds-tokens-i-2
 offset_bounds-tokens-i-2 c = omega (arith, at-end (goal.at.offset_bounds-tokens-i-2 c).Else-row)
@@ -69,4 +69,4 @@ bounds-tokens-i-2 c = at-end (goal.at.bounds-tokens-i-2 c).Else-row
 pub returns : goal.returns
 returns c = λ t x.
     decided_at _ _ t _ _ x _ _ (c.loop-row.invariant t x) (ends (goal.at.returns c).Else-row) _
-    (c.rule.ensures ∙ ap (λ (n : ℕ). rule_by n c.loop-row.row.mark) c.wide_u16-2.ensures)
+    (c.rule.ensures ∙ ap (λ (n : ℕ). rule_by n c.loop-row.row.mark) c.from-2.ensures)

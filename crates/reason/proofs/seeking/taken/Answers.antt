@@ -19,4 +19,4 @@ overflow_sub-height c =
 
 pub returns : goal.returns
 returns c = λ ts us step fits r.
-    rw c.smaller.ensures (group_taken _ _ _ _ ts us step fits r c.if-token-lt256.false).1
+    rw c.min.ensures (group_taken _ _ _ _ ts us step fits r c.if-token-lt256.false).1

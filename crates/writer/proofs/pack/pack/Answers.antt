@@ -13,7 +13,7 @@ pub put_field-next-requires : goal.put_field-next-requires
 put_field-next-requires c =
     let l = c.loop-i in
     let hours = c.args.hours.now in record {
-      ready = subst (λ x. Ready l.p (length (field_bits hours x))) (sym c.wide_u16.ensures)
+      ready = subst (λ x. Ready l.p (length (field_bits hours x))) (sym c.from.ensures)
           (ready_for_field c.args.n hours c.args.fields.now l.bytes l.p l.i l.invariant c.requires.fields_bound
           c.loop-i-test.true);
       all_below = c.requires.all_below;
@@ -25,7 +25,7 @@ loop-i-preserved c =
     let hours = c.args.hours.now in
     next c.args.n hours c.args.fields.now l.bytes l.p l.i l.invariant c.put_field-next.new.bytes c.put_field-next.result
     c.loop-i-test.true
-    (subst (λ x. Puts (field_bits hours x) l.bytes l.p c.put_field-next.new.bytes c.put_field-next.result) c.wide_u16.ensures
+    (subst (λ x. Puts (field_bits hours x) l.bytes l.p c.put_field-next.new.bytes c.put_field-next.result) c.from.ensures
     c.put_field-next.ensures)
 
 pub finish-count-requires : goal.finish-count-requires

@@ -20,7 +20,7 @@ module _ (q : goal.After-taken-leaf) where
   leaf-takes =
       let a = q.args in
       subst (λ l. Takes l a.p q.taken-leaf.result)
-      (ap (λ h. bits 8 a.field ++ bits hours_bits h) q.wide_u16.ensures ∙ sym (leaf_is a.hours.now a.field q.if-field-lt128.true))
+      (ap (λ h. bits 8 a.field ++ bits hours_bits h) q.from.ensures ∙ sym (leaf_is a.hours.now a.field q.if-field-lt128.true))
       (takes_both q.taken-job.ensures q.taken-leaf.ensures)
 
   leaf_room
@@ -48,7 +48,7 @@ taken-job-requires c = omega (arith, c.requires.ready.few, c.if-field-lt128.true
 pub taken-leaf-requires : goal.taken-leaf-requires
 taken-leaf-requires c = (
   omega (arith, c.taken-job.ensures.more, length_bits 8 c.args.field, c.requires.ready.few),
-  subst (λ h. h < 2 ^ hours_bits) (sym c.wide_u16.ensures)
+  subst (λ h. h < 2 ^ hours_bits) (sym c.from.ensures)
       (entry_below c.args.hours.now c.args.field (2 ^ hours_bits) (omega arith) c.requires.all_below),
 )
 

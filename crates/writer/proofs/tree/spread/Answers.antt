@@ -8,19 +8,19 @@ use lib.ListN.{length, get_or, take}
 use Rattle.relation.specs.Table.{members}
 use Rattle.writer.specs.Stack.{Stacks, entries, spread_out}
 use Rattle.writer.proofs.Stacking.{stacks_lower}
-use Rattle.writer.proofs.tree.spread.Goals.{After-wide_u8-whole}
+use Rattle.writer.proofs.tree.spread.Goals.{After-from-whole}
 use Rattle.writer.proofs.tree.spread.Goals as goal
 
 -- the size that is kept is the set's
-whole : (c : goal.After-wide_u8-whole) → c.wide_u8-whole.result ≡ length (members (get_or c.args.stack.now (c.args.p.height - 1) []))
-whole c = c.wide_u8-whole.ensures.0 ∙ c.requires.top.stacks.sized (c.args.p.height - 1) (omega (arith, c.requires.top.up))
+whole : (c : goal.After-from-whole) → c.from-whole.result ≡ length (members (get_or c.args.stack.now (c.args.p.height - 1) []))
+whole c = c.from-whole.ensures ∙ c.requires.top.stacks.sized (c.args.p.height - 1) (omega (arith, c.requires.top.up))
 
 pub push-height-requires : goal.push-height-requires
 push-height-requires c =
     let a = c.args in
     let r = c.requires in
     let m = r.top in
-    let size = whole (goal.at.push-height-requires c).After-wide_u8-whole in record {
+    let size = whole (goal.at.push-height-requires c).After-from-whole in record {
       count_bound = (omega (arith, m.level, r.few), omega (arith, m.level, r.few), omega (arith, m.fits, size));
       sized = (r.sized, r.same_jobs ∙ sym size);
       stacks = stacks_lower a.stack.now a.starts.now a.kinds.now a.sizes.now a.p.height (a.p.height - 1) (omega arith) m.stacks;
@@ -50,7 +50,7 @@ returns c =
           ap (entries stack starts kinds) level
           ∙ push.ensures.count_after
           ∙ ap (λ k. spread_out (get_or a.kinds.now top false) (get_or a.starts.now top 0) k (take a.count a.parts.now) ++ others)
-          (whole (goal.at.returns c).After-wide_u8-whole);
+          (whole (goal.at.returns c).After-from-whole);
       field = g.fields_after;
       one_field = g.height_value.1;
       one_group = g.height_value.2;

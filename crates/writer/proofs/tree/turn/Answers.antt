@@ -7,12 +7,12 @@ use lib.ListN.{length, get_or}
 use Rattle.relation.specs.Table.{members, holds}
 use Rattle.writer.specs.Turns.{work, top_of, PartedAs, put, opens, stays}
 use Rattle.writer.proofs.Turning.{parted_lengths, spread_room}
-use Rattle.writer.proofs.tree.turn.Goals.{After-wide_u8-whole, After-split_as-count}
+use Rattle.writer.proofs.tree.turn.Goals.{After-from-whole, After-split_as-count}
 use Rattle.writer.proofs.tree.turn.Goals as goal
 
 -- the size that is kept is the set's
-whole : (c : goal.After-wide_u8-whole) → c.wide_u8-whole.result ≡ length (members (get_or c.args.stack.now (c.args.p.height - 1) []))
-whole c = c.wide_u8-whole.ensures.0 ∙ c.requires.top_room.stacks.sized (c.args.p.height - 1) (omega (arith, c.requires.top_room.up))
+whole : (c : goal.After-from-whole) → c.from-whole.result ≡ length (members (get_or c.args.stack.now (c.args.p.height - 1) []))
+whole c = c.from-whole.ensures ∙ c.requires.top_room.stacks.sized (c.args.p.height - 1) (omega (arith, c.requires.top_room.up))
 
 pub returns-then-whole-eq1 : goal.returns-then-whole-eq1
 returns-then-whole-eq1 c =
@@ -20,7 +20,7 @@ returns-then-whole-eq1 c =
     let e = c.put_leaf-next.ensures in record {
       stepped = put
           (record {
-            one = sym (whole (goal.at.returns-then-whole-eq1 c).After-wide_u8-whole) ∙ c.if-whole-eq1.true;
+            one = sym (whole (goal.at.returns-then-whole-eq1 c).After-from-whole) ∙ c.if-whole-eq1.true;
             field = ap (work a.stack.now a.starts.now a.kinds.now a.sizes.now) e.fields_after.0;
             ahead = e.fields_after.1;
             back = e.fields_after.2;
@@ -35,7 +35,7 @@ returns-then-whole-eq1 c =
 pub split_as-count-requires : goal.split_as-count-requires
 split_as-count-requires c = record {
   jobs = c.requires.top_room.small;
-  whole_value = whole (goal.at.split_as-count-requires c).After-wide_u8-whole;
+  whole_value = whole (goal.at.split_as-count-requires c).After-from-whole;
   partial = c.requires.partial;
   parts_len = c.requires.parts_len;
 }
@@ -49,7 +49,7 @@ pub returns-then-count-lt2 : goal.returns-then-count-lt2
 returns-then-count-lt2 c =
     let p = goal.at.returns-then-count-lt2 c in
     let q = p.After-split_as-count in record {
-      stepped = stays (apart q) c.if-count-lt2.true (λ e. c.if-whole-eq1.false (whole p.After-wide_u8-whole ∙ e));
+      stepped = stays (apart q) c.if-count-lt2.true (λ e. c.if-whole-eq1.false (whole p.After-from-whole ∙ e));
       parts_len_2 = parted_lengths (apart q);
     }
 
