@@ -1,23 +1,23 @@
--- Arcs given as two numbers for each.
-use Prim.Native.Nat.{ℕ, zero, suc, ◌+◌, ◌*◌, ◌/◌, ◌<◌}
-use mathlib.Core.Path.{◌≡◌, refl, ap₂, ◌∙◌}
-use mathlib.Core.List.{List, [], ◌∷◌}
-use native.Mathlib.Omega.{arith}
-use lib.ListN.{length, get_or}
+-- The lines of arcs given as two numbers for each.
+use Rattle.std.proofs.Common.{◌≡◌, ℕ, suc, ◌/◌, List, [], ◌∷◌, ◌++◌, length, refl, ap, ap₂, ◌∙◌, arith, get_or}
+use mathlib.Core.List.{flat_map}
+use Rattle.std.specs.Simd.{first_chunks}
+use Rattle.std.specs.Fmt.{decimal as written}
 use Rattle.relation.specs.Arcs.{pairs}
+use Rattle.sheet.specs.Text.{space, line_feed}
+use Rattle.printer.specs.Text.{spaced, arc_line}
+use Rattle.printer.proofs.Digits.{Small, rest, same_digits}
 
-pub length_pairs : (l : List ℕ) → length (pairs l) ≡ length l / 2
-unfolding pairs
-length_pairs [] = refl
-length_pairs (u ∷ []) = refl
-length_pairs (u ∷ v ∷ l) = let e = length_pairs l in omega arith
+-- what is written for two numbers
+unfoldable pub pair_line : List ℕ → List ℕ
+pair_line l = written (get_or l 0 0) ++ space ∷ written (get_or l 1 0) ++ line_feed ∷ []
 
-pub pairs_at : (l : List ℕ) (i : ℕ) → i < length l / 2 → (get_or l (2 * i) 0, get_or l (2 * i + 1) 0) ≡ get_or (pairs l) i (0, 0)
-unfolding pairs
-pairs_at [] i h = absurd (omega arith)
-pairs_at (u ∷ []) i h = absurd (omega arith)
-pairs_at (u ∷ v ∷ l) zero h = refl
-pairs_at (u ∷ v ∷ l) (suc i) h =
-    let p : 2 * suc i ≡ suc (suc (2 * i)) = omega arith in
-    let q : 2 * suc i + 1 ≡ suc (suc (2 * i + 1)) = omega arith in
-    ap₂ (λ (j k : ℕ). (get_or (u ∷ v ∷ l) j 0, get_or (u ∷ v ∷ l) k 0)) p q ∙ pairs_at l i (omega arith)
+pub same_arcs : (l : List ℕ) → Small l → flat_map pair_line (first_chunks 2 (length l / 2) l) ≡ flat_map arc_line (pairs l)
+unfolding flat_map pairs pair_line arc_line spaced
+same_arcs [] h = refl
+same_arcs (u ∷ []) h = refl
+same_arcs (u ∷ v ∷ l) h =
+    let n : length (u ∷ v ∷ l) / 2 ≡ suc (length l / 2) = omega arith in
+    rw n
+    (ap₂ (λ (a b : List ℕ). a ++ space ∷ b ++ line_feed ∷ [] ++ flat_map pair_line (first_chunks 2 (length l / 2) l)) (same_digits u (h.fits 0)) (same_digits v (h.fits 1))
+    ∙ ap (λ (t : List ℕ). arc_line (u, v) ++ t) (same_arcs l (rest (rest h))))
