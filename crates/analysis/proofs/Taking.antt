@@ -15,7 +15,7 @@ use Rattle.poset.proofs.Laws.{lt_true, false_unless, ltb-true}
 use Rattle.poset.proofs.Theorems.{reduction_fits}
 use Rattle.relation.specs.Table.{holds}
 use Rattle.record.specs.Layout.{layout}
-use Rattle.writer.specs.Written.{written}
+use Rattle.writer.specs.Written.{record_of}
 use Rattle.writer.specs.declared.writing.Written.{Written}
 use Rattle.writer.proofs.Spelling.{bytes_count, bytes_are}
 use Rattle.analysis.specs.Answer.{answer}
@@ -98,7 +98,7 @@ module _ (n : ℕ) (hours : List ℕ) (r : Rel) (t : Tree) (size : ℕ) (written
 
 -- an order taken apart
 module _ (n : ℕ) (few : n ≤ 128) (hours : List ℕ) (r : Rel) (strict : Strict n r) (t : Tree) (e : tree_of n r ≡ some t)
-    (w : Written) (is : w ≡ written n hours (some t))
+    (w : Written) (is : w ≡ record_of n hours t)
     (red : List (List ℕ)) (same : (u v : ℕ) → holds red u v ≡ covers n r u v) (count : ℕ) (counts : count ≡ length (pairs_of n (holds red)))
     (bytes area : List ℕ) where
   abbrev whole : Outcome

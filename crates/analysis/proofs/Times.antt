@@ -16,6 +16,7 @@ use Rattle.relation.specs.Arcs.{place_from, place}
 use Rattle.record.specs.Bits.{AllBelow, bits, bytes_of}
 use Rattle.record.specs.Layout.{hours_bits, most_hours, layout}
 use Rattle.record.proofs.Entries.{entry_padded, padded_below, tree_agree}
+use Rattle.std.specs.Prelude.{Option as Found}
 use Rattle.writer.specs.Written.{written}
 use Rattle.writer.specs.declared.writing.Written.{Written}
 use Rattle.writer.proofs.Shaping.{drop_replicate}
@@ -97,5 +98,5 @@ module _ (hours : List ℕ) {all : List ℕ} (is : all ≡ padded hours) where
   pub all_below_lem : AllBelow (2 ^ hours_bits) hours → AllBelow (2 ^ hours_bits) all
   all_below_lem low = subst (AllBelow (2 ^ hours_bits)) (sym is) (padded_below hours low)
 
-  pub written_all : (n : ℕ) (o : Option Tree) {w : Written} → w ≡ written n all o → w ≡ written n hours o
+  pub written_all : (n : ℕ) (o : Option Tree) {w : Found Written} → w ≡ written n all o → w ≡ written n hours o
   written_all n o e = e ∙ ap (λ (h : List ℕ). written n h o) is ∙ written_padded n hours o

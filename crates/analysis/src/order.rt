@@ -43,10 +43,9 @@ fn take_apart(
 {
     let under = order::transposed(after, n);
     let all = hours::padded(hours);
-    let written = writing::write_record(after, &under, n, &all);
-    if !written.ok {
+    let Some(written) = writing::write_record(after, &under, n, &all) else {
         return crossed(after, &under, n);
-    }
+    };
     let reduced = reduction::reduced(after, n);
     let count = reduction::pair_count(&reduced, n);
     if bytes.len() < written.count {

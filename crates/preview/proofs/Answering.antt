@@ -9,7 +9,7 @@ use Rattle.poset.specs.Tree.{Tree}
 use Rattle.poset.specs.Decompose.{tree_of}
 use Rattle.poset.proofs.Theorems.{tree_of_sound}
 use Rattle.relation.specs.Table.{holds}
-use Rattle.writer.specs.Written.{written}
+use Rattle.writer.specs.Written.{record_of}
 use Rattle.writer.specs.declared.writing.Written.{Written}
 use Rattle.writer.proofs.Spelling.{bytes_count}
 use Rattle.analysis.specs.Answer.{answer}
@@ -27,7 +27,7 @@ told_refused e = same_answer (sym e)
 
 -- an order that a tree means, and what is counted of its record and its reduction
 pub told_accepted
-    : (n : ℕ) → n ≤ 128 → (hours : List ℕ) (r : Rel) → Strict n r → (t : Tree) → tree_of n r ≡ some t → (w : Written) → w ≡ written n hours (some t)
+    : (n : ℕ) → n ≤ 128 → (hours : List ℕ) (r : Rel) → Strict n r → (t : Tree) → tree_of n r ≡ some t → (w : Written) → w ≡ record_of n hours t
     → (red : List (List ℕ)) → ((u v : ℕ) → holds red u v ≡ covers n r u v) → (count : ℕ) → count ≡ length (pairs_of n (holds red))
     → answer 0 w.count count w.groups 0 ≡ (decomposed roomy n hours r).verdict
 unfolding accept

@@ -37,10 +37,9 @@ fn of_order(after: [[u64; 2]; 128], n: usize, hours: &[u16]) -> Verdict
 {
     let under = order::transposed(after, n);
     let all = hours::padded(hours);
-    let written = writing::write_record(after, &under, n, &all);
-    if !written.ok {
+    let Some(written) = writing::write_record(after, &under, n, &all) else {
         return crossed(after, &under, n);
-    }
+    };
     let reduced = reduction::reduced(after, n);
     let count = reduction::pair_count(&reduced, n);
     Verdict::Accepted(written.count, count, written.groups)

@@ -4,6 +4,7 @@ use mathlib.Core.Path.{◌≡◌, refl, sym, ap, ◌∙◌}
 use mathlib.Core.List.{List, ◌++◌, flat_map}
 use mathlib.Core.Bool.{Bool, true, false}
 use mathlib.Core.Option.{Option, none, some}
+use Rattle.std.specs.Prelude.{Some, None}
 use native.Mathlib.Omega.{arith}
 use lib.ListN.{length, take, replicate, length-append, length-replicate}
 use lib.Seq.{take_at}
@@ -20,7 +21,7 @@ use Rattle.record.proofs.Sizes.{groups_lt, length_tree_bits, length_leaves, span
 use Rattle.record.proofs.Tokens.{token_bits, tokens_few}
 use Rattle.writer.specs.Packing.{Ends}
 use Rattle.writer.specs.Shapes.{shape}
-use Rattle.writer.specs.Written.{filled, written}
+use Rattle.writer.specs.Written.{filled, record_of, written}
 use Rattle.writer.specs.declared.tree.Shape.{Shape}
 use Rattle.writer.specs.declared.writing.Written.{Written}
 
@@ -39,9 +40,16 @@ pub shape_told : (o : Option Tree) (r : Shape) → r ≡ shape o
     → (r.ok ≡ true → (t : Tree) × (o ≡ some t) × (r ≡ shape (some t))) × (r.ok ≡ false → o ≡ none)
 shape_told o r = told (λ o. r ≡ shape o) r.ok (ap (λ (r : Shape). r.ok)) (λ t. ap (λ (r : Shape). r.ok)) o
 
-pub written_told : (n : ℕ) (hours : List ℕ) (o : Option Tree) (w : Written) → w ≡ written n hours o
-    → (w.ok ≡ true → (t : Tree) × (o ≡ some t) × (w ≡ written n hours (some t))) × (w.ok ≡ false → o ≡ none)
-written_told n hours o w = told (λ o. w ≡ written n hours o) w.ok (ap (λ (w : Written). w.ok)) (λ t. ap (λ (w : Written). w.ok)) o
+-- a record is that of a tree
+pub written_some : (n : ℕ) (hours : List ℕ) (o : Option Tree) (w : Written) → Some w ≡ written n hours o
+    → (t : Tree) × (o ≡ some t) × (w ≡ record_of n hours t)
+written_some n hours none w e = absurd (cc)
+written_some n hours (some t) w e = (t, refl, cc)
+
+-- and where there is none, there is no tree
+pub written_none : (n : ℕ) (hours : List ℕ) (o : Option Tree) → None ≡ written n hours o → o ≡ none
+written_none n hours none e = refl
+written_none n hours (some t) e = absurd (cc)
 
 module _ (n : ℕ) (few : n ≤ 128) (r : Rel) (strict : Strict n r) (t : Tree) (e : tree_of n r ≡ some t) where
   spans : Spans n t
@@ -75,18 +83,18 @@ module _ (n : ℕ) (few : n ≤ 128) (r : Rel) (strict : Strict n r) (t : Tree) 
 
       -- the packed fields are the record
       pub wrote : (bytes : List ℕ) (count : ℕ) → Ends (bits 7 (n - 1) ++ flat_map (field_bits hours) (take s.count s.fields)) bytes count
-          → record { ok = true; bytes = bytes; count = count; groups = s.groups; forward = s.forward; reverse = s.reverse } ≡ written n hours (tree_of n r)
+          → Some (record { bytes = bytes; count = count; groups = s.groups; forward = s.forward; reverse = s.reverse }) ≡ written n hours (tree_of n r)
       unfolding layout
       wrote bytes count p =
           let same : bytes_of (bits 7 (n - 1) ++ flat_map (field_bits hours) (take s.count s.fields)) ≡ layout n hours t =
           ap (λ l. bytes_of (bits 7 (n - 1) ++ l)) spells.these in
           let eb = p.these ∙ ap filled same in
           let ec = p.number ∙ ap length same in
-          (λ i. record { ok = true; bytes = eb i; count = ec i; groups = (is i).groups; forward = (is i).forward; reverse = (is i).reverse })
+          (λ i. Some (record { bytes = eb i; count = ec i; groups = (is i).groups; forward = (is i).forward; reverse = (is i).reverse }))
           ∙ ap (written n hours) (sym e)
 
   -- the bytes that are written
-  module _ (hours : List ℕ) (w : Written) (is : w ≡ written n hours (some t)) where
+  module _ (hours : List ℕ) (w : Written) (is : w ≡ record_of n hours t) where
     pub bytes_count : w.count ≡ length (layout n hours t)
     bytes_count = ap (λ (w : Written). w.count) is
 

@@ -5,32 +5,18 @@ ghost use Rattle.poset.specs.Decompose.{tree_of};
 ghost use Rattle.record.specs.Bits.{AllBelow};
 ghost use Rattle.record.specs.Layout.{hours_bits};
 ghost use Rattle.relation.specs.Table.{holds, Inside};
-ghost use Rattle.writer.specs.Written.{unwritten, written};
+ghost use Rattle.writer.specs.Written.{written};
 
 use crate::{pack, tree};
 
-// Whether there is a record; its bytes and groups, and the two sequences.
+// The bytes of a record, how many there are, the groups, and the two sequences.
 #[derive(Clone, Copy)]
 pub struct Written {
-    pub ok: bool,
     pub bytes: [u8; record::RECORD_ROOM],
     pub count: usize,
     pub groups: usize,
     pub forward: [u8; 128],
     pub reverse: [u8; 128],
-}
-
-fn unwritten() -> Written
-    ensures { result ≡ unwritten }
-{
-    Written {
-        ok: false,
-        bytes: [0; record::RECORD_ROOM],
-        count: 0,
-        groups: 0,
-        forward: [0; 128],
-        reverse: [0; 128],
-    }
 }
 
 // after holds the order of n jobs, under the same turned round; hours has an entry for each job. Where no tree means the order there is no record.
@@ -39,7 +25,7 @@ pub fn write_record(
     under: &[[u64; 2]; 128],
     n: usize,
     hours: &[u16; 128],
-) -> Written
+) -> Option<Written>
     requires n_nonzero { (0 < n) × (n ≤ 128) }
     requires strict { Strict n (holds after) }
     requires inside { Inside n after }
@@ -49,19 +35,19 @@ pub fn write_record(
 {
     let shape = tree::shape_of(after, under, n);
     if !shape.ok {
-        return unwritten();
+        return None;
     }
     let fields = shape.fields;
     let packed = pack::pack(n, &fields[..shape.count], hours);
     let bytes = packed.bytes;
     let forward = shape.forward;
     let reverse = shape.reverse;
-    Written {
-        ok: true,
+    let written = Written {
         bytes,
         count: packed.count,
         groups: shape.groups,
         forward,
         reverse,
-    }
+    };
+    Some(written)
 }

@@ -3,7 +3,7 @@ use Prim.Native.Nat.{ℕ, zero, suc, ◌+◌, ◌*◌, ◌^◌, ◌≤◌, ◌<�
 use native.Mathlib.Nat.{suc-mul}
 use native.Mathlib.Numerals.{add-one}
 use native.Mathlib.Omega.{arith}
-use mathlib.Core.Path.{◌≡◌, sym, ap, ◌∙◌}
+use mathlib.Core.Path.{◌≡◌, refl, sym, ap, ◌∙◌}
 use mathlib.Core.List.{List}
 use mathlib.Core.Bool.{true, false}
 use mathlib.Core.Logic.{⊎_elim}
@@ -16,9 +16,9 @@ use Rattle.record.specs.Bits.{AllBelow}
 use Rattle.record.specs.Layout.{hours_bits, most_record_bytes}
 use Rattle.record.proofs.Below.{below_nil, below_cons}
 use Rattle.relation_bench.specs.Steps.{fits, acyclic}
-use Rattle.writer.specs.Written.{written}
+use Rattle.writer.specs.Written.{record_of, written}
 use Rattle.writer.proofs.Spelling.{bytes_few}
-use Rattle.writer_bench.specs.Rounds.{alike, bytes_written}
+use Rattle.writer_bench.specs.Rounds.{count_of, alike, bytes_written}
 
 -- i rounds of k bytes
 pub record Summed (k rounds sum i : ℕ) : Type 0 where
@@ -35,11 +35,11 @@ summed_next k rounds sum i l small x =
     }
 
 -- a record fits in its room
-pub record_few : (n : ℕ) (hours : List ℕ) → n ≤ 128 → (r : Rel) → Strict n r → (written n hours (tree_of n r)).count ≤ most_record_bytes
+pub record_few : (n : ℕ) (hours : List ℕ) → n ≤ 128 → (r : Rel) → Strict n r → count_of (written n hours (tree_of n r)) ≤ most_record_bytes
 record_few n hours few r strict =
     ⊎_elim
-    (λ (t, e). omega (arith, bytes_few n few r strict t e hours (written n hours (tree_of n r)) (ap (written n hours) e)))
-    (λ e. omega (arith, ap (λ o. (written n hours o).count) e))
+    (λ (t, e). omega (arith, bytes_few n few r strict t e hours (record_of n hours t) refl, ap (λ o. count_of (written n hours o)) e))
+    (λ e. omega (arith, ap (λ o. count_of (written n hours o)) e))
     (found_or_none (tree_of n r))
 
 -- such hours are small
@@ -70,6 +70,6 @@ module _ (rounds n : ℕ) (arcs : List Arc) where
         unfolding bytes_written
         cyclic a = rw (le-leb 1 n one, le-leb rounds 1000000 few, f, a, bytes_written)
 
-        pub all_written : acyclic n (before n arcs) ≡ true → rounds * (written n (alike n) (tree_of n (before n arcs))).count ≡ bytes_written rounds n arcs
+        pub all_written : acyclic n (before n arcs) ≡ true → rounds * count_of (written n (alike n) (tree_of n (before n arcs))) ≡ bytes_written rounds n arcs
         unfolding bytes_written
         all_written a = rw (le-leb 1 n one, le-leb rounds 1000000 few, f, a, bytes_written)

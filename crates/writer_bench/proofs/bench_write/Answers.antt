@@ -9,7 +9,7 @@ use Rattle.relation.specs.Arcs.{pairs}
 use Rattle.relation_bench.specs.Steps.{fits, acyclic}
 use Rattle.relation_bench.proofs.Refusals.{fits_within, acyclic_strict}
 use Rattle.writer.specs.Written.{written}
-use Rattle.writer_bench.specs.Rounds.{alike}
+use Rattle.writer_bench.specs.Rounds.{count_of, alike}
 use Rattle.writer_bench.proofs.Sums.{no_job, many_rounds, unfit, cyclic, all_written, alike_below}
 use Rattle.writer_bench.proofs.bench_write.Goals.{Else-not-fits, Else-not-acyclic}
 use Rattle.writer_bench.proofs.bench_write.Goals as goal
@@ -85,5 +85,5 @@ returns c =
     let a = c.args in
     let w = (goal.at.returns c).Else-not-fits in
     c.repeated.ensures
-    ∙ ap (λ r. a.rounds * (written a.n (alike a.n) (tree_of a.n r)).count) c.closed-after.ensures.result_value
+    ∙ ap (λ r. a.rounds * count_of (written a.n (alike a.n) (tree_of a.n r))) c.closed-after.ensures.result_value
     ∙ all_written a.rounds a.n (pairs a.arcs.now) (one w) (few w) (fit w) (order (goal.at.returns c).Else-not-acyclic)

@@ -1,5 +1,4 @@
 -- `analysis::hours::first_large` meets its contract. The loop's invariant: none of the first i hours is too large.
-use native.Mathlib.Omega.{arith}
 use mathlib.Core.Path.{sym, ◌∙◌}
 use lib.Dec.{ltb}
 use Rattle.record.specs.Layout.{most_hours}

@@ -1,5 +1,4 @@
 -- `analysis::hours::some_large` meets its contract. The loop's invariant: where none is noted, none of the first i hours is too large; else there is a first.
-use native.Mathlib.Omega.{arith}
 use mathlib.Core.Path.{refl, sym, ◌∙◌}
 use mathlib.Core.Logic.{⊎_elim}
 use lib.Dec.{ltb}

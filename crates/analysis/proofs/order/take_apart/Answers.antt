@@ -1,31 +1,28 @@
 -- `order::take_apart` meets its contract: the record decides between 8 and the rest, and the rooms between 9, 10 and acceptance.
-use borrow.Author.Tests.{not-false}
-use mathlib.Core.Path.{◌≡◌}
+use mathlib.Core.Path.{◌≡◌, sym, ◌∙◌}
 use mathlib.Core.Option.{some}
 use native.Mathlib.Omega.{arith}
 use Rattle.poset.specs.Tree.{Tree}
 use Rattle.poset.specs.Decompose.{tree_of}
-use Rattle.poset.proofs.Laws.{not-true}
 use Rattle.relation.specs.Table.{holds, Inside}
 use Rattle.relation.proofs.Chain.{reduced_inside}
-use Rattle.writer.specs.Written.{written}
-use Rattle.writer.proofs.Spelling.{written_told, bytes_few, bytes_size}
+use Rattle.writer.specs.Written.{record_of}
+use Rattle.writer.proofs.Spelling.{written_some, written_none, bytes_few, bytes_size}
 use Rattle.analysis.specs.Result.{rooms}
 use Rattle.analysis.proofs.Crossing.{gives_told, gives_crossed}
 use Rattle.analysis.proofs.Taking.{count_few, gives_9, gives_10, gives_0}
 use Rattle.analysis.proofs.Times.{all_below_lem, written_all}
 use Rattle.analysis.proofs.order.take_apart.Goals as goal
-use Rattle.analysis.proofs.order.take_apart.Goals.{Else-not-written, After-reduced-reduced}
+use Rattle.analysis.proofs.order.take_apart.Goals.{In-Some, After-reduced-reduced}
 
 -- a tree means the order: what is written is the record of the hours
-told : (c : goal.Else-not-written) → (t : Tree) × (tree_of c.args.n (holds c.args.after) ≡ some t)
-    × (c.write_record-written.result ≡ written c.args.n c.args.hours.now (some t))
+told : (c : In-Some) → (t : Tree) × (tree_of c.args.n (holds c.args.after) ≡ some t)
+    × (c.in-Some.written ≡ record_of c.args.n c.args.hours.now t)
 told c =
     let a = c.args in
     let tree = tree_of a.n (holds a.after) in
-    let wrote = c.write_record-written.result in
-    (written_told a.n a.hours.now tree wrote (written_all a.hours.now c.padded-all.ensures a.n tree c.write_record-written.ensures)).0
-    (not-false wrote.ok c.if-not-written.false)
+    written_some a.n a.hours.now tree c.in-Some.written
+    (sym c.in-Some.is ∙ written_all a.hours.now c.padded-all.ensures a.n tree c.write_record.ensures)
 
 -- its reduced orders
 inside : (c : goal.After-reduced-reduced) → Inside c.args.n c.reduced-reduced.result
@@ -34,8 +31,8 @@ inside c = reduced_inside c.args.n c.args.after c.reduced-reduced.result c.requi
 pub padded-all-requires : goal.padded-all-requires
 padded-all-requires c = omega (arith, c.requires.hours_len.0, c.requires.n_nonzero.1)
 
-pub write_record-written-requires : goal.write_record-written-requires
-write_record-written-requires c =
+pub write_record-requires : goal.write_record-requires
+write_record-requires c =
     let s = c.requires in
     record {
       n_nonzero = s.n_nonzero;
@@ -45,14 +42,13 @@ write_record-written-requires c =
       all_below = all_below_lem _ c.padded-all.ensures s.hours_len.1;
     }
 
-pub returns-then-not-written : goal.returns-then-not-written
-returns-then-not-written c =
+pub returns-in_default : goal.returns-in_default
+returns-in_default c =
     let a = c.args in
     let r = holds a.after in
-    let wrote = c.write_record-written.result in
     let bare =
-    (written_told a.n a.hours.now (tree_of a.n r) wrote (written_all a.hours.now c.padded-all.ensures a.n (tree_of a.n r) c.write_record-written.ensures)).1
-    (not-true wrote.ok c.if-not-written.true) in
+    written_none a.n a.hours.now (tree_of a.n r)
+    (sym c.in_default.is ∙ written_all a.hours.now c.padded-all.ensures a.n (tree_of a.n r) c.write_record.ensures) in
     gives_told c.crossed.ensures (gives_crossed (rooms a.bytes.now a.area.now) a.n a.hours.now r a.bytes.now a.area.now bare)
 
 pub pair_count-count-requires : goal.pair_count-count-requires
@@ -62,9 +58,9 @@ pair_count-count-requires c =
 pub returns-then-bytes-written : goal.returns-then-bytes-written
 returns-then-bytes-written c =
     let a = c.args in
-    let (t, e, is) = told (goal.at.returns-then-bytes-written c).Else-not-written in
+    let (t, e, is) = told (goal.at.returns-then-bytes-written c).In-Some in
     gives_told c.refused.ensures
-    (gives_9 a.n c.requires.n_nonzero.1 a.hours.now (holds a.after) c.requires.strict t e c.write_record-written.result is c.reduced-reduced.result
+    (gives_9 a.n c.requires.n_nonzero.1 a.hours.now (holds a.after) c.requires.strict t e c.in-Some.written is c.reduced-reduced.result
     c.reduced-reduced.ensures c.pair_count-count.result c.pair_count-count.ensures a.bytes.now a.area.now c.if-bytes-written.true)
 
 pub overflow_mul-count : goal.overflow_mul-count
@@ -81,9 +77,9 @@ overflow_mul-count c =
 pub returns-then-area-count : goal.returns-then-area-count
 returns-then-area-count c =
     let a = c.args in
-    let (t, e, is) = told (goal.at.returns-then-area-count c).Else-not-written in
+    let (t, e, is) = told (goal.at.returns-then-area-count c).In-Some in
     gives_told c.refused-then-area-count.ensures
-    (gives_10 a.n c.requires.n_nonzero.1 a.hours.now (holds a.after) c.requires.strict t e c.write_record-written.result is c.reduced-reduced.result
+    (gives_10 a.n c.requires.n_nonzero.1 a.hours.now (holds a.after) c.requires.strict t e c.in-Some.written is c.reduced-reduced.result
     c.reduced-reduced.ensures c.pair_count-count.result c.pair_count-count.ensures a.bytes.now a.area.now c.if-bytes-written.false
     c.if-area-count.true)
 
@@ -91,9 +87,9 @@ pub copy-requires : goal.copy-requires
 copy-requires c =
     let a = c.args in
     let r = holds a.after in
-    let (t, e, is) = told (goal.at.copy-requires c).Else-not-written in (
-      bytes_few a.n c.requires.n_nonzero.1 r c.requires.strict t e a.hours.now c.write_record-written.result is,
-      bytes_size a.n c.requires.n_nonzero.1 r c.requires.strict t e a.hours.now c.write_record-written.result is,
+    let (t, e, is) = told (goal.at.copy-requires c).In-Some in (
+      bytes_few a.n c.requires.n_nonzero.1 r c.requires.strict t e a.hours.now c.in-Some.written is,
+      bytes_size a.n c.requires.n_nonzero.1 r c.requires.strict t e a.hours.now c.in-Some.written is,
       c.if-bytes-written.false,
     )
 
@@ -109,7 +105,7 @@ write_pairs-requires c =
 pub returns : goal.returns
 returns c =
     let a = c.args in
-    let (t, e, is) = told (goal.at.returns c).Else-not-written in
-    gives_0 a.n c.requires.n_nonzero.1 a.hours.now (holds a.after) c.requires.strict t e c.write_record-written.result is c.reduced-reduced.result
+    let (t, e, is) = told (goal.at.returns c).In-Some in
+    gives_0 a.n c.requires.n_nonzero.1 a.hours.now (holds a.after) c.requires.strict t e c.in-Some.written is c.reduced-reduced.result
     c.reduced-reduced.ensures c.pair_count-count.result c.pair_count-count.ensures a.bytes.now a.area.now c.if-bytes-written.false
     c.if-area-count.false _ _ _ c.padded-all.ensures c.copy.ensures c.write_pairs.ensures

@@ -1,6 +1,6 @@
 -- `writing::write_record`: the record spells the tree, or there is neither.
 use borrow.Author.Tests.{not-true, not-false}
-use mathlib.Core.Path.{◌≡◌, sym, ap, ◌∙◌}
+use mathlib.Core.Path.{◌≡◌, sym, ap}
 use mathlib.Core.Option.{Option, some}
 use Prim.Native.Nat.{◌≤◌}
 use lib.ListN.{length}
@@ -21,7 +21,7 @@ returns-then-not-shape c =
     let a = c.args in
     let shape = c.shape_of-shape in
     let none = (shape_told (tree_of a.n (holds a.after)) shape.result shape.ensures).1 (not-true c.shape_of-shape.result.ok c.if-not-shape.true) in
-    c.unwritten.ensures ∙ ap (written a.n a.hours.now) (sym none)
+    ap (written a.n a.hours.now) (sym none)
 
 -- the shape of a tree
 module _ (c : goal.Else-not-shape) where
