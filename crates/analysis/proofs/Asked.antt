@@ -3,7 +3,7 @@ use Prim.Native.Nat.{ℕ}
 use mathlib.Core.Path.{◌≡◌, sym, ap, subst, ◌∙◌}
 use mathlib.Core.List.{List, [], ◌∷◌}
 use mathlib.Core.Logic.{◌↔◌, ◌≢◌, ◌⊎◌, inl, inr, ⊎_elim}
-use mathlib.Core.Option.{none, some}
+use Rattle.std.specs.Prelude.{None, Some}
 use native.Mathlib.Omega.{arith}
 use Rattle.poset.specs.Order.{Arc}
 use Rattle.poset.specs.Tree.{Tree}
@@ -54,14 +54,14 @@ module _ {A : Type 0} (q : Question A) where
       (λ k. (n : ℕ) × (t : Tree) × (hours : List ℕ) × IsRecord bytes n t hours × Next n t hours k) (number (ask bytes))
   ask_number Next next bytes below =
       ⊎_elim
-      (λ (h : (x : ℕ × Tree × List ℕ) × (decode bytes ≡ some x)).
+      (λ (h : (x : ℕ × Tree × List ℕ) × (decode bytes ≡ Some x)).
       let ((n, t, hours), e) = h in
       let r = layout_decode bytes n t hours below e in
       inr (
         λ no. no n t hours r,
         (n, t, hours, r, subst (Next n t hours) (sym (ap number (ask_told bytes n t hours r))) (next n t hours)),
       ))
-      (λ (h : decode bytes ≡ none). let no = (decode_none bytes below).0 h in inl (no, number_11 bytes below no))
+      (λ (h : decode bytes ≡ None). let no = (decode_none bytes below).0 h in inl (no, number_11 bytes below no))
       (found_or_none (decode bytes))
 
   -- exactly where no accepted sheet yields the bytes

@@ -2,7 +2,7 @@
 use Prim.Native.Nat.{ℕ}
 use mathlib.Core.Path.{◌≡◌, refl, sym, ap, ap₂, subst, ◌∙◌}
 use mathlib.Core.List.{List, flat_map}
-use mathlib.Core.Option.{Option, none, some}
+use Rattle.std.specs.Prelude.{Option, None, Some}
 use Rattle.poset.specs.Areas.{overlay, padded, arc_bytes}
 use Rattle.poset.specs.Order.{Rel, Four, Strict, first_n_of}
 use Rattle.poset.specs.Tree.{Tree}
@@ -46,45 +46,45 @@ gives_refused e h same = gives_told e (gives_refusal _ _ _ _ _ _ _ _ _ h same)
 -- the outcome, by what the search for an N and for a tree find
 
 abbrev after_n : Rooms → ℕ → List ℕ → Rel → Option Four → Option Tree → Outcome
-after_n rs n hours r (some q) o = refuse 8 q.0 q.1 q.2 q.3
-after_n rs n hours r none (some t) = fitted rs (accept n hours r t)
-after_n rs n hours r none none = refuse 8 0 0 0 0
+after_n rs n hours r (Some q) o = refuse 8 q.0 q.1 q.2 q.3
+after_n rs n hours r None (Some t) = fitted rs (accept n hours r t)
+after_n rs n hours r None None = refuse 8 0 0 0 0
 
 decomposed_is : (rs : Rooms) (n : ℕ) (hours : List ℕ) (r : Rel) → decomposed rs n hours r ≡ after_n rs n hours r (first_n_of n r) (tree_of n r)
 unfolding decomposed
 decomposed_is rs n hours r = go (first_n_of n r) (tree_of n r)
   where
     go : (a : Option Four) (b : Option Tree)
-        → elim a [ some q ↦ refuse 8 q.0 q.1 q.2 q.3 | none ↦ elim b [ some t ↦ fitted rs (accept n hours r t) | none ↦ refuse 8 0 0 0 0 ] ]
+        → elim a [ Some q ↦ refuse 8 q.0 q.1 q.2 q.3 | None ↦ elim b [ Some t ↦ fitted rs (accept n hours r t) | None ↦ refuse 8 0 0 0 0 ] ]
         ≡ after_n rs n hours r a b
-    go (some q) b = refl
-    go none (some t) = refl
-    go none none = refl
+    go (Some q) b = refl
+    go None (Some t) = refl
+    go None None = refl
 
-by_n : (rs : Rooms) (n : ℕ) (hours : List ℕ) (r : Rel) (q : Four) → first_n_of n r ≡ some q → decomposed rs n hours r ≡ refuse 8 q.0 q.1 q.2 q.3
+by_n : (rs : Rooms) (n : ℕ) (hours : List ℕ) (r : Rel) (q : Four) → first_n_of n r ≡ Some q → decomposed rs n hours r ≡ refuse 8 q.0 q.1 q.2 q.3
 by_n rs n hours r q e = decomposed_is rs n hours r ∙ ap (λ a. after_n rs n hours r a (tree_of n r)) e
 
-by_none : (rs : Rooms) (n : ℕ) (hours : List ℕ) (r : Rel) → first_n_of n r ≡ none → tree_of n r ≡ none → decomposed rs n hours r ≡ refuse 8 0 0 0 0
+by_none : (rs : Rooms) (n : ℕ) (hours : List ℕ) (r : Rel) → first_n_of n r ≡ None → tree_of n r ≡ None → decomposed rs n hours r ≡ refuse 8 0 0 0 0
 by_none rs n hours r e h = decomposed_is rs n hours r ∙ ap₂ (after_n rs n hours r) e h
 
 -- an order that no tree means
-pub gives_crossed : (rs : Rooms) (n : ℕ) (hours : List ℕ) (r : Rel) (bytes area : List ℕ) → tree_of n r ≡ none
+pub gives_crossed : (rs : Rooms) (n : ℕ) (hours : List ℕ) (r : Rel) (bytes area : List ℕ) → tree_of n r ≡ None
     → Gives (decomposed rs n hours r) bytes area (crossed_by (first_n_of n r)) bytes area
 unfolding decomposed
 gives_crossed rs n hours r bytes area bare = go (first_n_of n r) refl
   where
     go : (o : Option Four) → first_n_of n r ≡ o → Gives (decomposed rs n hours r) bytes area (crossed_by (first_n_of n r)) bytes area
-    go (some q) e =
+    go (Some q) e =
         subst (λ o. Gives (decomposed rs n hours r) bytes area (crossed_by o) bytes area) (sym e)
         (gives_refusal (verdict.Crossed q.0 q.1 q.2 q.3) (decomposed rs n hours r) bytes area 8 q.0 q.1 q.2 q.3
         (by_n rs n hours r q e) refl)
-    go none e =
+    go None e =
         subst (λ o. Gives (decomposed rs n hours r) bytes area (crossed_by o) bytes area) (sym e)
         (gives_refusal (verdict.Crossed 0 0 0 0) (decomposed rs n hours r) bytes area 8 0 0 0 0 (by_none rs n hours r e bare) refl)
 
 -- an order that a tree means
 pub tree_outcome
-    : (rs : Rooms) (n : ℕ) (hours : List ℕ) (r : Rel) (t : Tree) → Strict n r → tree_of n r ≡ some t
+    : (rs : Rooms) (n : ℕ) (hours : List ℕ) (r : Rel) (t : Tree) → Strict n r → tree_of n r ≡ Some t
     → decomposed rs n hours r ≡ fitted rs (accept n hours r t)
 tree_outcome rs n hours r t strict e =
     decomposed_is rs n hours r

@@ -3,7 +3,7 @@ use Prim.Native.Nat.{ℕ, ◌*◌, ◌≤◌, ◌<◌}
 use mathlib.Core.Path.{◌≡◌, refl, sym, ap, ◌∙◌}
 use mathlib.Core.List.{List, []}
 use mathlib.Core.Bool.{true, false, ◌&&◌}
-use mathlib.Core.Option.{Option, none, some}
+use Rattle.std.specs.Prelude.{Option, None, Some}
 use lib.ListN.{length, take}
 use Rattle.poset.specs.Areas.{overlay, padded, arc_bytes}
 use Rattle.poset.specs.Lists.{occurrences, ahead_in}
@@ -29,7 +29,7 @@ use Rattle.analysis.proofs.ReadBack.{record_some}
 pub record Decoded (bytes : List ℕ) (x : Reading) : Type 0 where
   pub tree : Tree
   pub hours : List ℕ
-  pub decodes : decode bytes ≡ some (x.count, tree, hours)
+  pub decodes : decode bytes ≡ Some (x.count, tree, hours)
   pub spells : IsRecord bytes x.count tree hours
   pub groups_are : x.groups ≡ groups tree
   pub forward_is : x.forward ≡ padded (leaves tree)
@@ -41,9 +41,9 @@ module _ (bytes : List ℕ) (x : Reading) where
   decoded small reads ok = go (decode bytes) refl reads
     where
       go : (o : Option (ℕ × Tree × List ℕ)) → decode bytes ≡ o → x ≡ reading o → Decoded bytes x
-      go none e h = absurd (clash ok (ap (λ (r : Reading). r.ok) h))
-      go (some (n, t, hours)) e h =
-          let same : decode bytes ≡ some (x.count, t, hours) = e ∙ ap (λ (k : ℕ). some (k, t, hours)) (sym (ap (λ (r : Reading). r.count) h)) in
+      go None e h = absurd (clash ok (ap (λ (r : Reading). r.ok) h))
+      go (Some (n, t, hours)) e h =
+          let same : decode bytes ≡ Some (x.count, t, hours) = e ∙ ap (λ (k : ℕ). Some (k, t, hours)) (sym (ap (λ (r : Reading). r.count) h)) in
           record {
             tree = t;
             hours = hours;
@@ -62,8 +62,8 @@ module _ (bytes : List ℕ) (x : Reading) where
     where
       go : (o : Option (ℕ × Tree × List ℕ)) → decode bytes ≡ o → x ≡ reading o
           → Gives (record_outcome (length area) bytes) [] area (refusal verdict.NoRecord) [] area
-      go none e h = gives_refusal verdict.NoRecord (record_outcome (length area) bytes) [] area 11 0 0 0 0 (rw (record_outcome, e)) refl
-      go (some y) e h = absurd (clash (ap (λ (r : Reading). r.ok) h) bad)
+      go None e h = gives_refusal verdict.NoRecord (record_outcome (length area) bytes) [] area 11 0 0 0 0 (rw (record_outcome, e)) refl
+      go (Some y) e h = absurd (clash (ap (λ (r : Reading). r.ok) h) bad)
 
   module _ (d : Decoded bytes x) where
     pub ready : ((x.count ≤ 128) × (length x.forward ≡ 128) × (length x.reverse ≡ 128))

@@ -10,7 +10,7 @@ use Rattle.poset.proofs.Theorems.{reduction_fits}
 use Rattle.relation.specs.Arcs.{pairs}
 use Rattle.record.specs.Layout.{layout}
 use Rattle.record.proofs.Theorems.{layout_length}
-use Rattle.analysis.specs.Claims.{None}
+use Rattle.analysis.specs.Claims.{NoneHolds}
 use Rattle.analysis.specs.Sentences.{limits}
 use Rattle.analysis.specs.Outcome.{roomy, Outcome, refuse, accept, sheet_outcome, pair_outcome}
 use Rattle.analysis.proofs.Fates.{clear_count, clear_strict}
@@ -26,7 +26,7 @@ abbrev Roomy : Outcome → Type 0
 Roomy o = (o.verdict.number ≢ 9) × (o.verdict.number ≢ 10)
 
 module _ (n : ℕ) (hours : List ℕ) (arcs : List Arc) where
-  has_room : {t : Tree} → None (limits n hours arcs) → Means n t (before n arcs)
+  has_room : {t : Tree} → NoneHolds (limits n hours arcs) → Means n t (before n arcs)
       → (length (layout n hours t) ≤ roomy.record_room) × (2 * length (reduction n (before n arcs)) ≤ roomy.arc_room)
   has_room {t} c m = enough n hours (before n arcs) t (clear_count n hours arcs c).1 (clear_strict n hours arcs c) m.spans
 

@@ -4,7 +4,7 @@ use Prim.Native.Nat.{ℕ, ◌^◌, ◌%◌, ◌≤◌, ◌<◌}
 use mathlib.Core.Path.{◌≡◌, sym, ap, subst, ◌∙◌}
 use mathlib.Core.List.{List}
 use mathlib.Core.Bool.{true, false}
-use mathlib.Core.Option.{none}
+use Rattle.std.specs.Prelude.{None}
 use mathlib.Core.Logic.{◌↔◌, ◌≢◌, ⊎_elim}
 use native.Mathlib.Omega.{arith}
 use lib.ListN.{length}
@@ -31,7 +31,7 @@ module _ (room : ℕ) (bytes : List ℕ) (n : ℕ) (t : Tree) (hours : List ℕ)
   below : AllBelow 256 bytes
   below = subst (AllBelow 256) was.spelt (layout_below n hours t)
 
-  none_plain : (decode bytes ≡ none) ↔ (canonical t ≡ false)
+  none_plain : (decode bytes ≡ None) ↔ (canonical t ≡ false)
   none_plain =
       let told : ℕ × Tree × List ℕ = (n, t, hours) in
       let e = former_decode bytes n t hours was in

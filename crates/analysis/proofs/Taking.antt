@@ -3,7 +3,7 @@ use Prim.Native.Nat.{ℕ, ◌*◌, ◌≤◌, ◌<◌}
 use mathlib.Core.Path.{◌≡◌, refl, sym, ap, ap₂, fun_ext, ◌∙◌}
 use mathlib.Core.List.{List}
 use mathlib.Core.Bool.{false}
-use mathlib.Core.Option.{some}
+use Rattle.std.specs.Prelude.{Some}
 use native.Mathlib.Omega.{arith}
 use lib.Dec.{ltb}
 use lib.ListN.{length, take}
@@ -97,7 +97,7 @@ module _ (n : ℕ) (hours : List ℕ) (r : Rel) (t : Tree) (size : ℕ) (written
       })
 
 -- an order taken apart
-module _ (n : ℕ) (few : n ≤ 128) (hours : List ℕ) (r : Rel) (strict : Strict n r) (t : Tree) (e : tree_of n r ≡ some t)
+module _ (n : ℕ) (few : n ≤ 128) (hours : List ℕ) (r : Rel) (strict : Strict n r) (t : Tree) (e : tree_of n r ≡ Some t)
     (w : Written) (is : w ≡ record_of n hours t)
     (red : List (List ℕ)) (same : (u v : ℕ) → holds red u v ≡ covers n r u v) (count : ℕ) (counts : count ≡ length (pairs_of n (holds red)))
     (bytes area : List ℕ) where

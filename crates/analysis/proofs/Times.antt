@@ -3,7 +3,7 @@ use Prim.Native.Nat.{ℕ, suc, ◌+◌, ◌-◌, ◌^◌, ◌≤◌, ◌<◌}
 use mathlib.Core.Path.{◌≡◌, refl, sym, ap, subst, ◌∙◌}
 use mathlib.Core.List.{List, ◌∷◌, ◌++◌}
 use mathlib.Core.Bool.{Bool, true, false}
-use mathlib.Core.Option.{Option, none, some}
+use Rattle.std.specs.Prelude.{Option, None, Some}
 use native.Mathlib.Decide.{dec_lt}
 use native.Mathlib.Numerals.{add-one}
 use native.Mathlib.Omega.{arith}
@@ -32,7 +32,7 @@ pub record Passed (p : ℕ → Bool) (xs : List ℕ) (i : ℕ) : Type 0 where
   pub same : place p xs ≡ place_from i p (drop i xs)
 
 module _ (p : ℕ → Bool) (x : ℕ) (xs : List ℕ) (k : ℕ) where
-  place_hit : p x ≡ true → place_from k p (x ∷ xs) ≡ some k
+  place_hit : p x ≡ true → place_from k p (x ∷ xs) ≡ Some k
   unfolding place_from
   place_hit e = rw (e, place_from)
 
@@ -49,7 +49,7 @@ module _ (p : ℕ → Bool) (xs : List ℕ) where
     at_entry : i < length xs → place p xs ≡ place_from i p (get_or xs i 0 ∷ drop (suc i) xs)
     at_entry l = c.same ∙ ap (place_from i p) (drop-cons xs i 0 l)
 
-    pub passed_hit : i < length xs → p (get_or xs i 0) ≡ true → some i ≡ place p xs
+    pub passed_hit : i < length xs → p (get_or xs i 0) ≡ true → Some i ≡ place p xs
     passed_hit l e = sym (at_entry l ∙ place_hit p (get_or xs i 0) (drop (suc i) xs) i e)
 
     pub passed_next : i < length xs → p (get_or xs i 0) ≡ false → Passed p xs (i + 1)
@@ -61,12 +61,12 @@ module _ (p : ℕ → Bool) (xs : List ℕ) where
           ∙ ap (λ (k : ℕ). place_from k p (drop k xs)) (sym (add-one i));
     }
 
-    pub passed_end : length xs ≤ i → none ≡ place p xs
+    pub passed_end : length xs ≤ i → None ≡ place p xs
     unfolding place_from
     passed_end l = sym (c.same ∙ ap (place_from i p) (drop_of_length-le xs l))
 
 -- hours that are not too large
-pub large_below : (hours : List ℕ) → place (ltb most_hours) hours ≡ none → AllBelow (2 ^ hours_bits) hours
+pub large_below : (hours : List ℕ) → place (ltb most_hours) hours ≡ None → AllBelow (2 ^ hours_bits) hours
 large_below hours e h m =
     elim (dec_lt most_hours h) [ yes l ↦ absurd (place_none (ltb most_hours) _ (ltb_is most_hours) hours e h m l) | no l ↦ omega arith ]
 
@@ -90,8 +90,8 @@ layout_padded n hours t =
     ap (λ (l : List ℕ). bytes_of (bits 7 (n - 1) ++ l)) (tree_agree (padded hours) hours t (λ j _. entry_padded hours (128 - length hours) j))
 
 written_padded : (n : ℕ) (hours : List ℕ) (o : Option Tree) → written n (padded hours) o ≡ written n hours o
-written_padded n hours none = refl
-written_padded n hours (some t) = rw (layout_padded n hours t)
+written_padded n hours None = refl
+written_padded n hours (Some t) = rw (layout_padded n hours t)
 
 -- an array of all entries, of which a record is written
 module _ (hours : List ℕ) {all : List ℕ} (is : all ≡ padded hours) where

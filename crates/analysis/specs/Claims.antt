@@ -10,9 +10,9 @@ use Rattle.analysis.specs.Outcome.{Outcome}
 use Rattle.analysis.specs.Sentences.{Check}
 
 -- no sentence of the checks holds
-abbrev pub None : List Check → Type 0
-None [] = Unit {0}
-None (c ∷ cs) = (c.1 → ⊥) × None cs
+abbrev pub NoneHolds : List Check → Type 0
+NoneHolds [] = Unit {0}
+NoneHolds (c ∷ cs) = (c.1 → ⊥) × NoneHolds cs
 
 -- nothing is written, and the sequences and the hours are empty
 abbrev pub Untouched : Outcome → Type 0

@@ -1,6 +1,6 @@
 -- The refusals in checking order, and what an accepted input yields.
 use Rattle.std.specs.Prelude.{ℕ, ◌*◌, ◌%◌, List, [], true, false, ◌||◌, ltb, eqb, length}
-use Rattle.std.proofs.Math.Option.{none, some}
+use Rattle.std.specs.Prelude.{None, Some}
 use Rattle.poset.specs.Order.{Arc, Rel, before, first_on_cycle_of, first_n_of, reduction}
 use Rattle.poset.specs.Tree.{Tree, leaves, reversed, groups, precedes}
 use Rattle.poset.specs.Decompose.{tree_of}
@@ -59,27 +59,27 @@ fitted rooms o = elim (ltb rooms.record_room (length o.bytes)) [ true ↦ refuse
 unfoldable pub decomposed : Rooms → ℕ → List ℕ → Rel → Outcome
 decomposed rooms n hours r =
     elim (first_n_of n r) [
-      | some q ↦ refuse 8 q.0 q.1 q.2 q.3
-      | none ↦ elim (tree_of n r) [ some t ↦ fitted rooms (accept n hours r t) | none ↦ refuse 8 0 0 0 0 ]
+      | Some q ↦ refuse 8 q.0 q.1 q.2 q.3
+      | None ↦ elim (tree_of n r) [ Some t ↦ fitted rooms (accept n hours r t) | None ↦ refuse 8 0 0 0 0 ]
     ]
 
 -- 7: a job is before itself
 unfoldable pub ordered : Rooms → ℕ → List ℕ → Rel → Outcome
-ordered rooms n hours r = elim (first_on_cycle_of n r) [ some u ↦ refuse 7 u 0 0 0 | none ↦ decomposed rooms n hours r ]
+ordered rooms n hours r = elim (first_on_cycle_of n r) [ Some u ↦ refuse 7 u 0 0 0 | None ↦ decomposed rooms n hours r ]
 
 -- 5: an arc names a job not below the count; 6: an arc from a job to itself
 unfoldable pub listed : Rooms → ℕ → List ℕ → List Arc → Outcome
 listed rooms n hours arcs =
     elim (place (outside n) arcs) [
-      | some i ↦ refuse 5 i 0 0 0
-      | none ↦ elim (place loop arcs) [ some i ↦ refuse 6 i 0 0 0 | none ↦ ordered rooms n hours (before n arcs) ]
+      | Some i ↦ refuse 5 i 0 0 0
+      | None ↦ elim (place loop arcs) [ Some i ↦ refuse 6 i 0 0 0 | None ↦ ordered rooms n hours (before n arcs) ]
     ]
 
 -- 12: there are not as many hours as jobs; 13: hours above 4,095
 unfoldable pub timed : Rooms → ℕ → List ℕ → List Arc → Outcome
 timed rooms n hours arcs =
     elim (eqb (length hours) n) [
-      | true ↦ elim (place (ltb most_hours) hours) [ some j ↦ refuse 13 j 0 0 0 | none ↦ listed rooms n hours arcs ]
+      | true ↦ elim (place (ltb most_hours) hours) [ Some j ↦ refuse 13 j 0 0 0 | None ↦ listed rooms n hours arcs ]
       | false ↦ refuse 12 0 0 0 0
     ]
 
@@ -119,4 +119,4 @@ read_back bytes n t hours =
 
 -- The reading of a record: 11 where the bytes are none, then 10.
 unfoldable pub record_outcome : ℕ → List ℕ → Outcome
-record_outcome room bytes = elim (decode bytes) [ none ↦ refuse 11 0 0 0 0 | some x ↦ arcs_fit room (read_back bytes x.0 x.1 x.2) ]
+record_outcome room bytes = elim (decode bytes) [ None ↦ refuse 11 0 0 0 0 | Some x ↦ arcs_fit room (read_back bytes x.0 x.1 x.2) ]

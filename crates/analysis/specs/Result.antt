@@ -1,6 +1,5 @@
 -- What a call hands back and leaves in the areas, by the outcome.
-use Rattle.std.specs.Prelude.{ℕ, ◌≡◌, List, [], Result, Ok, Err, length}
-use Rattle.std.proofs.Math.Option.{Option, none, some}
+use Rattle.std.specs.Prelude.{ℕ, ◌≡◌, List, [], Option, None, Some, Result, Ok, Err, length}
 use Rattle.poset.specs.Order.{Four}
 use Rattle.poset.specs.Areas.{overlay, padded, arc_bytes}
 use Rattle.analysis.specs.Answer.{Answer, answer}
@@ -67,8 +66,8 @@ refusal v = record { verdict = v; forward = padded []; reverse = padded []; hour
 
 -- the refusal of an order that no tree means, by its first N
 abbrev pub crossed_by : Option Four → Analysis
-crossed_by (some q) = refusal (verdict.Crossed q.0 q.1 q.2 q.3)
-crossed_by none = refusal (verdict.Crossed 0 0 0 0)
+crossed_by (Some q) = refusal (verdict.Crossed q.0 q.1 q.2 q.3)
+crossed_by None = refusal (verdict.Crossed 0 0 0 0)
 
 -- the room of two areas
 abbrev pub rooms : List ℕ → List ℕ → Rooms

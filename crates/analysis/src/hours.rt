@@ -1,6 +1,6 @@
 //! The hours of jobs.
 ghost use Rattle.std.specs.Prelude.{ℕ, ◌≤◌, ◌≡◌, true, false, ltb, length};
-ghost use Rattle.std.proofs.Math.Option.{none, some};
+ghost use Rattle.std.specs.Prelude.{None, Some};
 ghost use Rattle.poset.specs.Areas.{padded};
 ghost use Rattle.relation.specs.Arcs.{place, found};
 ghost use Rattle.record.specs.Layout.{most_hours};
@@ -16,8 +16,8 @@ fn large(hours: u16) -> bool
 
 // Whether some job has more. A loop with no exit in it, for several jobs at a time.
 fn some_large(hours: &[u16]) -> bool
-    ensures { (result ≡ false → none ≡ place (ltb most_hours) hours.now)
-        × (result ≡ true → (j : ℕ) × (some j ≡ place (ltb most_hours) hours.now)) }
+    ensures { (result ≡ false → None ≡ place (ltb most_hours) hours.now)
+        × (result ≡ true → (j : ℕ) × (Some j ≡ place (ltb most_hours) hours.now)) }
 {
     let mut some = false;
     for i in 0..hours.len() {

@@ -1,6 +1,6 @@
 //! A count, its hours and its arcs: the refusals 3, 4, 12, 13, 5 and 6, and then the order.
 ghost use Rattle.std.specs.Prelude.{ℕ, ◌<◌, ◌≤◌, ◌^◌, ◌≡◌, List, length};
-ghost use Rattle.std.proofs.Math.Option.{none};
+ghost use Rattle.std.specs.Prelude.{None};
 ghost use Rattle.poset.specs.Order.{Arc};
 ghost use Rattle.relation.specs.Arcs.{pairs, place, outside};
 ghost use Rattle.record.specs.Bits.{AllBelow};
@@ -15,7 +15,7 @@ use relation::{Found, arcs};
 fn of_named(list: &[u16], n: u16, hours: &[u16], bytes: &mut [u8], area: &mut [u8]) -> Analysis
     requires n_nonzero { (0 < n) × (n ≤ 128) }
     requires hours_len { (length hours.now ≡ n) × AllBelow (2 ^ hours_bits) hours.now }
-    requires list_value { place (outside n) (pairs list.now) ≡ none }
+    requires list_value { place (outside n) (pairs list.now) ≡ None }
     ensures { Gives (listed (rooms bytes.old area.old) n hours.now (pairs list.now))
         bytes.old area.old result bytes.new area.new }
 {

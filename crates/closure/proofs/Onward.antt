@@ -6,7 +6,7 @@ use mathlib.Core.Path.{◌≡◌, sym, ap, ap₂, fun_ext, ◌∙◌}
 use mathlib.Core.List.{List}
 use mathlib.Core.Bool.{Bool, true, false, ◌&&◌, ◌||◌, not}
 use mathlib.Core.Logic.{◌⊎◌, inl, inr, ⊎_elim}
-use mathlib.Core.Option.{none}
+use Rattle.std.specs.Prelude.{None}
 use borrow.Author.Tests.{ne_eqb}
 use lib.Dec.{eqb}
 use lib.ListN.{length, set}
@@ -217,7 +217,7 @@ rows_none n r made left small inside blank dom =
 
 -- the count without a cycle, and with one
 module _ (n : ℕ) (r : Rel) where
-  pub count_acyclic : first_on_cycle_of n (via r n) ≡ none → join_count n r ≡ length (pairs_of n r)
+  pub count_acyclic : first_on_cycle_of n (via r n) ≡ None → join_count n r ≡ length (pairs_of n r)
   unfolding join_count
   count_acyclic h = rw (join_count, h)
 

@@ -1,6 +1,6 @@
 -- How many joins of one row into another make the transitive closure.
 use Rattle.std.specs.Prelude.{ℕ, List, [], ◌∷◌, true, false, length}
-use Rattle.std.proofs.Math.Option.{none, some}
+use Rattle.std.specs.Prelude.{None, Some}
 use Rattle.poset.specs.Lists.{exists, keep, below, sum}
 use Rattle.poset.specs.Order.{Arc, Rel, arc, via, first_on_cycle_of, pairs_of}
 
@@ -15,7 +15,7 @@ pass_joins n r = sum (λ k. joins_at n (via r k) k) (below n)
 -- the joins that make the closure (Document 02: the step that joins one row into another). Without a cycle there is one for each pair of the
 -- relation; with one the passes make it, and what was joined before the cycle was met is in none of its rows and does not count
 unfoldable pub join_count : ℕ → Rel → ℕ
-join_count n r = elim (first_on_cycle_of n (via r n)) [ none ↦ length (pairs_of n r) | some u ↦ pass_joins n r ]
+join_count n r = elim (first_on_cycle_of n (via r n)) [ None ↦ length (pairs_of n r) | Some u ↦ pass_joins n r ]
 
 -- the distinct arcs of a list: one that stands again further on is left out (Document 02: the different orders)
 unfoldable pub distinct : List Arc → List Arc

@@ -3,7 +3,7 @@ use Prim.Native.Nat.{ℕ, ◌-◌, ◌≤◌, ◌<◌}
 use mathlib.Core.Path.{◌≡◌, refl, sym, ap, subst, ◌∙◌}
 use mathlib.Core.List.{List, [], map, append-nil, Memᴰ}
 use mathlib.Core.Bool.{cond}
-use mathlib.Core.Option.{none}
+use Rattle.std.specs.Prelude.{None}
 use native.Mathlib.Decide.{dec_lt}
 use native.Mathlib.Omega.{arith}
 use lib.Dec.{eqb}
@@ -96,7 +96,7 @@ module _ {bytes : List ℕ} {x : NodeList} (d : Decoded bytes x) {count : ℕ} {
         gangs_are = gangs_are;
       })
 
-pub shows_11 : (bytes : List ℕ) → decode bytes ≡ none
+pub shows_11 : (bytes : List ℕ) → decode bytes ≡ None
     → Shows (gang_outcome bytes) (record { verdict = verdict.NoRecord; count = 0; hours = padded []; gangs = padded [] })
 unfolding gang_outcome
 shows_11 bytes e = rw (gang_outcome, e) (record { answers = refl; count_is = refl; hours_are = refl; gangs_are = refl })

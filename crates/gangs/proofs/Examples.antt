@@ -2,7 +2,7 @@
 use Prim.Native.Nat.{ℕ}
 use mathlib.Core.Path.{◌≡◌, refl}
 use mathlib.Core.List.{List, [], ◌∷◌, map}
-use mathlib.Core.Option.{bind}
+use Rattle.std.specs.Prelude.{option_and_then}
 use Rattle.poset.specs.Lists.{exists, keep, member, occurrences, up_from, below, only_if}
 use Rattle.poset.specs.Tree.{leaves, least, alternates, outranks, ahead, canonical}
 use Rattle.record.specs.Bits.{bits, bits_of}
@@ -50,7 +50,7 @@ examples =
     ∷ []
 
 pub shown_gangs : map (λ (e : Example). gang_outcome e.0) examples ≡ map (λ (e : Example). e.1) examples
-unfolding bind exists keep member occurrences up_from below only_if leaves least alternates outranks ahead canonical
+unfolding exists keep member occurrences up_from below only_if leaves least alternates outranks ahead canonical
     bits bits_of read_bits kind_of read_forest grouped read_tree every fills spanning beside decode joined_gangs gangs_from gang_count gang gang_hours
     gang_outcome
 shown_gangs = refl

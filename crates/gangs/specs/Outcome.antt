@@ -1,7 +1,7 @@
 -- What the call hands back. (Document 02, A.5, and A.3 for every later request: bytes that are no record give 11; acceptance has places of 0, since
 -- no record is written; with a refusal there are no gangs, no hours and no gang numbers.)
 use Rattle.std.specs.Prelude.{ℕ, ◌≡◌, List, [], map, length, get_or}
-use Rattle.std.proofs.Math.Option.{none, some}
+use Rattle.std.specs.Prelude.{None, Some}
 use Rattle.poset.specs.Areas.{padded}
 use Rattle.poset.specs.Lists.{below}
 use Rattle.poset.specs.Order.{Rel}
@@ -23,8 +23,8 @@ pub record GangOutcome : Type 0 where
 unfoldable pub gang_outcome : List ℕ → GangOutcome
 gang_outcome bytes =
     elim (decode bytes) [
-      | none ↦ record { verdict = answer 11 0 0 0 0; count = 0; hours = []; gangs = [] }
-      | some x ↦
+      | None ↦ record { verdict = answer 11 0 0 0 0; count = 0; hours = []; gangs = [] }
+      | Some x ↦
           let n = x.0 in
           let t = x.1 in
           record {

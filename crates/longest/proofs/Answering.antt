@@ -2,7 +2,7 @@
 use Prim.Native.Nat.{ℕ}
 use mathlib.Core.Path.{◌≡◌, refl, ap, ◌∙◌}
 use mathlib.Core.List.{List, []}
-use mathlib.Core.Option.{none}
+use Rattle.std.specs.Prelude.{None}
 use native.Mathlib.Omega.{arith}
 use lib.ListN.{length}
 use Rattle.poset.specs.Areas.{padded}
@@ -20,7 +20,7 @@ use Rattle.longest.specs.declared.stack.Run.{Run}
 use Rattle.longest.specs.declared.showing.Showing.{Showing}
 use Rattle.longest.proofs.Measures.{run_short, run_of_leaves}
 
-pub shows_11 : (bytes : List ℕ) → decode bytes ≡ none
+pub shows_11 : (bytes : List ℕ) → decode bytes ≡ None
     → Shows (run_outcome bytes) (record { verdict = verdict.NoRecord; total = 0; count = 0; jobs = padded [] })
 unfolding run_outcome
 shows_11 bytes e = rw (run_outcome, e) (record { answers = refl; total_is = refl; count_is = refl; jobs_are = refl })

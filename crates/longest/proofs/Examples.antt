@@ -2,7 +2,7 @@
 use Prim.Native.Nat.{ℕ}
 use mathlib.Core.Path.{◌≡◌, refl}
 use mathlib.Core.List.{List, [], ◌∷◌, map}
-use mathlib.Core.Option.{bind}
+use Rattle.std.specs.Prelude.{option_and_then}
 use lib.ListN.{length}
 use Rattle.poset.specs.Lists.{exists, member, occurrences, up_from, below, only_if}
 use Rattle.poset.specs.Tree.{series, parallel, Tree, leaf, node, last, more, leaves, least, alternates, outranks, ahead, canonical}
@@ -42,7 +42,7 @@ examples =
     ∷ []
 
 pub shown_runs : map (λ (e : Example). run_outcome e.0) examples ≡ map (λ (e : Example). e.1) examples
-unfolding bind occurrences up_from below only_if leaves least alternates outranks ahead canonical
+unfolding occurrences up_from below only_if leaves least alternates outranks ahead canonical
     bits bits_of read_bits kind_of read_forest grouped read_tree every fills spanning beside decode joined_runs longest run_outcome
 shown_runs = refl
 

@@ -1,7 +1,7 @@
 -- What the call hands back. (Document 02, A.3: bytes that are no record give 11; acceptance has places of 0, since no record is written; with
 -- a refusal the total is 0 and there are no jobs.)
 use Rattle.std.specs.Prelude.{ℕ, ◌≡◌, List, [], length}
-use Rattle.std.proofs.Math.Option.{none, some}
+use Rattle.std.specs.Prelude.{None, Some}
 use Rattle.poset.specs.Areas.{padded}
 use Rattle.record.specs.Layout.{hours_of}
 use Rattle.record.specs.Decode.{decode}
@@ -19,8 +19,8 @@ pub record RunOutcome : Type 0 where
 unfoldable pub run_outcome : List ℕ → RunOutcome
 run_outcome bytes =
     elim (decode bytes) [
-      | none ↦ record { verdict = answer 11 0 0 0 0; total = 0; jobs = [] }
-      | some x ↦ let run = longest (hours_of x.2) x.1 in record { verdict = answer 0 0 0 0 0; total = run.0; jobs = run.1 }
+      | None ↦ record { verdict = answer 11 0 0 0 0; total = 0; jobs = [] }
+      | Some x ↦ let run = longest (hours_of x.2) x.1 in record { verdict = answer 0 0 0 0 0; total = run.0; jobs = run.1 }
     ]
 
 -- the answer, the total, how many jobs, and these in the first entries of 128, the others 0

@@ -5,7 +5,7 @@ use mathlib.Core.Path.{◌≡◌, refl, sym, ap, Σ_path, ◌∙◌}
 use mathlib.Core.List.Memᴰ
 use mathlib.Core.List.{List, Memᴰ}
 use mathlib.Core.Bool.{Bool, true, false, ◌&&◌, ◌||◌}
-use mathlib.Core.Option.{none}
+use Rattle.std.specs.Prelude.{None}
 use mathlib.Core.Logic.{◌⊎◌, inl, inr, ⊎_elim, ◌↔◌}
 use native.Mathlib.Omega.{arith}
 use lib.Dec.{eqb}
@@ -114,7 +114,7 @@ before_is_run n arcs within u v =
     back (then {u = x} {w = w} {v = y} m t) =
         via_trans (arc arcs) n x w y (within (x, w) m).1 (via_base _ n x w ((arc_mem arcs x w).1 m)) (back t)
 
-pub before_is_strict : (n : ℕ) (arcs : List Arc) → first_on_cycle_of n (before n arcs) ≡ none → Strict n (before n arcs)
+pub before_is_strict : (n : ℕ) (arcs : List Arc) → first_on_cycle_of n (before n arcs) ≡ None → Strict n (before n arcs)
 unfolding before
 before_is_strict n arcs h =
     record {

@@ -4,7 +4,8 @@ use mathlib.Core.Path.{◌≡◌, refl, sym, ap, ap₂, subst, ◌∙◌}
 use mathlib.Core.List.{List, [], ◌∷◌, ◌++◌, flat_map, Memᴰ}
 use mathlib.Core.List.{append_assoc}
 use mathlib.Core.Bool.{Bool, true, false, ◌&&◌, ◌||◌, not, true≢false}
-use mathlib.Core.Option.{Option, none, some, some-injective, some-ne-none}
+use Rattle.std.specs.Prelude.{Option, None, Some, option_map, option_and_then}
+use Rattle.std.proofs.lemmas.Option.{none-some, same_Some}
 use mathlib.Core.Logic.{◌⊎◌, inl, inr, ⊎_elim, ◌↔◌}
 use native.Mathlib.Nat.{eq-or-lt_of_le}
 use native.Mathlib.Decide.{dec_le}
@@ -121,12 +122,12 @@ module _ (x y : ℕ) (ys : List ℕ) where
   unfolding occurrences
   count_other e = rw (eqb_differ x y e, occurrences)
 
-module _ {ℓ κ} {A : Type ℓ} {B : Type κ} (f : A → Option B) (x : A) (xs : List A) where
-  pub first_here : {b : B} → f x ≡ some b → first f (x ∷ xs) ≡ some b
+module _ {ℓ} {A : Type ℓ} {B : Type 0} (f : A → Option B) (x : A) (xs : List A) where
+  pub first_here : {b : B} → f x ≡ Some b → first f (x ∷ xs) ≡ Some b
   unfolding first
   first_here e = rw (e, first)
 
-  pub first_later : f x ≡ none → first f (x ∷ xs) ≡ first f xs
+  pub first_later : f x ≡ None → first f (x ∷ xs) ≡ first f xs
   unfolding first
   first_later e = rw (e, first)
 
@@ -283,20 +284,30 @@ keep_agree p q (x ∷ xs) h =
 
 -- what may be found
 
-module _ {ℓ} {A : Type ℓ} where
-  pub found_or_none : (o : Option A) → ((a : A) × (o ≡ some a)) ⊎ (o ≡ none)
-  found_or_none (some a) = inl (a, refl)
-  found_or_none none = inr refl
+pub and_then_some : {A B : Type 0} (o : Option A) (g : A → Option B) {x : B}
+    → (option_and_then g o ≡ Some x) ↔ ((a : A) × (o ≡ Some a) × (g a ≡ Some x))
+and_then_some None g {x} = (λ e. absurd (none-some x e), λ t. absurd (none-some t.0 t.1))
+and_then_some (Some a) g {x} = (λ e. (a, refl, e), λ t. ap (option_and_then g) t.1 ∙ t.2)
 
-  pub found_clash : {o : Option A} {a : A} → o ≡ some a → o ≡ none → ⊥
-  found_clash {a} p q = some-ne-none a (sym p ∙ q)
+pub map_some : {A B : Type 0} (f : A → B) (o : Option A) {x : B}
+    → (option_map f o ≡ Some x) ↔ ((a : A) × (o ≡ Some a) × (f a ≡ x))
+map_some f None {x} = (λ e. absurd (none-some x e), λ t. absurd (none-some t.0 t.1))
+map_some f (Some a) {x} = (λ e. (a, refl, same_Some (f a) x e), λ t. ap (option_map f) t.1 ∙ ap Some t.2)
 
-  pub only_if_some : (b : Bool) {a c : A} → only_if b a ≡ some c → (b ≡ true) × (a ≡ c)
+module _ {A : Type 0} where
+  pub found_or_none : (o : Option A) → ((a : A) × (o ≡ Some a)) ⊎ (o ≡ None)
+  found_or_none (Some a) = inl (a, refl)
+  found_or_none None = inr refl
+
+  pub found_clash : {o : Option A} {a : A} → o ≡ Some a → o ≡ None → ⊥
+  found_clash {a} p q = none-some a (sym q ∙ p)
+
+  pub only_if_some : (b : Bool) {a c : A} → only_if b a ≡ Some c → (b ≡ true) × (a ≡ c)
   unfolding only_if
-  only_if_some true {a} {c} h = (refl, some-injective a c h)
+  only_if_some true {a} {c} h = (refl, same_Some a c h)
   only_if_some false h = absurd (found_clash h refl)
 
-  pub only_if_none : (b : Bool) (a : A) → (only_if b a ≡ none) ↔ (b ≡ false)
+  pub only_if_none : (b : Bool) (a : A) → (only_if b a ≡ None) ↔ (b ≡ false)
   unfolding only_if
   only_if_none true a = (λ h. absurd (found_clash refl h), λ h. absurd (clash refl h))
   only_if_none false a = (λ _. refl, λ _. refl)

@@ -4,7 +4,7 @@ use native.Mathlib.Nat.{eq-or-lt_of_le}
 use mathlib.Core.Path.{◌≡◌, refl, sym, ap, subst, ◌∙◌}
 use mathlib.Core.List.{List, [], ◌∷◌, Memᴰ}
 use mathlib.Core.Bool.{true, false}
-use mathlib.Core.Option.{Option, none, some}
+use Rattle.std.specs.Prelude.{Option, None, Some}
 use mathlib.Core.Logic.{⊎_elim, ◌↔◌}
 use native.Mathlib.Omega.{arith}
 use Rattle.poset.specs.Lists.{up_from, below, first, only_if}
@@ -13,15 +13,15 @@ use Rattle.poset.proofs.Laws.{clash, false_unless, first_here, first_later, foun
 
 -- over any list
 
-module _ {ℓ κ} {A : Type ℓ} {B : Type κ} (f : A → Option B) where
-  head_none : (x : A) (xs : List A) → first f (x ∷ xs) ≡ none → f x ≡ none
+module _ {ℓ} {A : Type ℓ} {B : Type 0} (f : A → Option B) where
+  head_none : (x : A) (xs : List A) → first f (x ∷ xs) ≡ None → f x ≡ None
   head_none x xs h = ⊎_elim (λ s. absurd (found_clash (first_here f x xs s.1) h)) (λ e. e) (found_or_none (f x))
 
-  pub first_none : {x : A} {xs : List A} → Memᴰ x xs → first f xs ≡ none → f x ≡ none
+  pub first_none : {x : A} {xs : List A} → Memᴰ x xs → first f xs ≡ None → f x ≡ None
   first_none (Memᴰ.head {x = y} {xs = ys} e) h = ap f e ∙ head_none y ys h
   first_none (Memᴰ.tail {x = y} {xs = ys} m) h = first_none m (sym (first_later f y ys (head_none y ys h)) ∙ h)
 
-  pub none_first : (xs : List A) → ((x : A) → Memᴰ x xs → f x ≡ none) → first f xs ≡ none
+  pub none_first : (xs : List A) → ((x : A) → Memᴰ x xs → f x ≡ None) → first f xs ≡ None
   unfolding first
   none_first [] h = refl
   none_first (x ∷ xs) h =
@@ -29,12 +29,12 @@ module _ {ℓ κ} {A : Type ℓ} {B : Type κ} (f : A → Option B) where
 
 -- over the numbers below n
 
-module _ {ℓ} {B : Type ℓ} (f : ℕ → Option B) where
+module _ {B : Type 0} (f : ℕ → Option B) where
   -- the least i of k, k + 1, .., k + n - 1 at which f finds anything, where it finds b
-  abbrev From : ℕ → ℕ → B → Type ℓ
-  From k n b = (i : ℕ) × (k ≤ i) × (i < k + n) × (f i ≡ some b) × ((j : ℕ) → k ≤ j → j < i → f j ≡ none)
+  abbrev From : ℕ → ℕ → B → Type 0
+  From k n b = (i : ℕ) × (k ≤ i) × (i < k + n) × (f i ≡ Some b) × ((j : ℕ) → k ≤ j → j < i → f j ≡ None)
 
-  first_from : (k n : ℕ) {b : B} → first f (up_from k n) ≡ some b → From k n b
+  first_from : (k n : ℕ) {b : B} → first f (up_from k n) ≡ Some b → From k n b
   unfolding first up_from
   first_from k zero h = absurd (found_clash h refl)
   first_from k (suc n) {b} h =
@@ -43,20 +43,20 @@ module _ {ℓ} {B : Type ℓ} (f : ℕ → Option B) where
       (λ e. later e (first_from (suc k) n (sym (first_later f k (up_from (suc k) n) e) ∙ h)))
       (found_or_none (f k))
     where
-      later : f k ≡ none → From (suc k) n b → From k (suc n) b
+      later : f k ≡ None → From (suc k) n b → From k (suc n) b
       later e s =
           (s.0, omega arith, omega arith, s.3, λ j p q. ⊎_elim (λ d. ap f (sym d) ∙ e) (λ l. s.4 j l q) (eq-or-lt_of_le p))
 
-  pub first_below : (n : ℕ) {b : B} → first f (below n) ≡ some b → (i : ℕ) × (i < n) × (f i ≡ some b) × ((j : ℕ) → j < i → f j ≡ none)
+  pub first_below : (n : ℕ) {b : B} → first f (below n) ≡ Some b → (i : ℕ) × (i < n) × (f i ≡ Some b) × ((j : ℕ) → j < i → f j ≡ None)
   unfolding below
   first_below n h = let s = first_from 0 n h in (s.0, omega arith, s.3, λ j l. s.4 j (omega arith) l)
 
-  pub none_below : (n : ℕ) → (first f (below n) ≡ none) ↔ ((i : ℕ) → i < n → f i ≡ none)
+  pub none_below : (n : ℕ) → (first f (below n) ≡ None) ↔ ((i : ℕ) → i < n → f i ≡ None)
   none_below n = (λ h i l. first_none f (below_mem l) h, λ h. none_first f (below n) (λ i m. h i (mem_below n m)))
 
 -- the first job on a cycle
 
-pub first_on_cycle_none : (n : ℕ) (r : Rel) → (first_on_cycle_of n r ≡ none) ↔ ((u : ℕ) → u < n → r u u ≡ false)
+pub first_on_cycle_none : (n : ℕ) (r : Rel) → (first_on_cycle_of n r ≡ None) ↔ ((u : ℕ) → u < n → r u u ≡ false)
 unfolding first_on_cycle_of
 first_on_cycle_none n r =
     (λ h u l. (only_if_none (r u u) u).0 ((none_below f n).0 h u l), λ h. (none_below f n).1 (λ u l. (only_if_none (r u u) u).1 (h u l)))
@@ -64,7 +64,7 @@ first_on_cycle_none n r =
     f : ℕ → Option ℕ
     f u = only_if (r u u) u
 
-pub first_on_cycle_least : (n : ℕ) (r : Rel) (u : ℕ) → first_on_cycle_of n r ≡ some u → (u < n) × (r u u ≡ true) × ((v : ℕ) → v < u → r v v ≡ false)
+pub first_on_cycle_least : (n : ℕ) (r : Rel) (u : ℕ) → first_on_cycle_of n r ≡ Some u → (u < n) × (r u u ≡ true) × ((v : ℕ) → v < u → r v v ≡ false)
 unfolding first_on_cycle_of
 first_on_cycle_least n r u h =
     let s = first_below (λ v. only_if (r v v) v) n h in
@@ -92,19 +92,19 @@ module _ (n : ℕ) (r : Rel) where
 
   -- it is something where there is an N
   module _ (q : Four) (h : NAt n r q) where
-    not_d : at_d q.0 q.1 q.2 q.3 ≡ none → ⊥
+    not_d : at_d q.0 q.1 q.2 q.3 ≡ None → ⊥
     not_d e = clash h.stands ((only_if_none _ _).0 e)
 
-    not_c : at_c q.0 q.1 q.2 ≡ none → ⊥
+    not_c : at_c q.0 q.1 q.2 ≡ None → ⊥
     not_c e = not_d ((none_below _ n).0 e q.3 h.d_below)
 
-    not_b : at_b q.0 q.1 ≡ none → ⊥
+    not_b : at_b q.0 q.1 ≡ None → ⊥
     not_b e = not_c ((none_below _ n).0 e q.2 h.c_below)
 
-    not_a : at_a q.0 ≡ none → ⊥
+    not_a : at_a q.0 ≡ None → ⊥
     not_a e = not_b ((none_below _ n).0 e q.1 h.b_below)
 
-  pub first_n_none : (first_n_of n r ≡ none) ↔ (HasN n r → ⊥)
+  pub first_n_none : (first_n_of n r ≡ None) ↔ (HasN n r → ⊥)
   unfolding first_n_of
   first_n_none = (
     λ e q. not_a q.0 q.1 ((none_below at_a n).0 e q.0.0 q.1.a_below),
@@ -116,7 +116,7 @@ module _ (n : ℕ) (r : Rel) where
         (only_if_none _ _).1 (false_unless _ λ e. h ((a, b, c, d), record { a_below = la; b_below = lb; c_below = lc; d_below = ld; stands = e })),
   )
 
-  pub first_n_least : (q : Four) → first_n_of n r ≡ some q → NAt n r q × ((p : Four) → NAt n r p → SmallerFour p q → ⊥)
+  pub first_n_least : (q : Four) → first_n_of n r ≡ Some q → NAt n r q × ((p : Four) → NAt n r p → SmallerFour p q → ⊥)
   unfolding first_n_of
   first_n_least q h =
       let a = first_below at_a n h in

@@ -3,7 +3,7 @@ use Prim.Native.Nat.{ℕ, ◌*◌, ◌≤◌, ◌<◌}
 use mathlib.Core.Path.{◌≡◌}
 use mathlib.Core.List.{List, Memᴰ}
 use mathlib.Core.Bool.{true, false, cond}
-use mathlib.Core.Option.{none, some}
+use Rattle.std.specs.Prelude.{None, Some}
 use mathlib.Core.Logic.{◌↔◌, ◌⊎◌}
 use lib.Dec.{ltb}
 use lib.ListN.{length}
@@ -28,16 +28,16 @@ pub before_is_run : (n : ℕ) (arcs : List Arc) → Within n arcs → (u v : ℕ
 before_is_run = Closure.before_is_run
 
 -- with no cycle it is a strict order
-pub before_is_strict : (n : ℕ) (arcs : List Arc) → first_on_cycle_of n (before n arcs) ≡ none → Strict n (before n arcs)
+pub before_is_strict : (n : ℕ) (arcs : List Arc) → first_on_cycle_of n (before n arcs) ≡ None → Strict n (before n arcs)
 before_is_strict = Closure.before_is_strict
 
 -- no job on a cycle is found exactly when there is none
-pub first_on_cycle_none : (n : ℕ) (r : Rel) → (first_on_cycle_of n r ≡ none) ↔ ((u : ℕ) → u < n → r u u ≡ false)
+pub first_on_cycle_none : (n : ℕ) (r : Rel) → (first_on_cycle_of n r ≡ None) ↔ ((u : ℕ) → u < n → r u u ≡ false)
 first_on_cycle_none = Searches.first_on_cycle_none
 
 -- the job found is before itself, and no smaller one is
 pub first_on_cycle_least
-    : (n : ℕ) (r : Rel) (u : ℕ) → first_on_cycle_of n r ≡ some u → (u < n) × (r u u ≡ true) × ((v : ℕ) → v < u → r v v ≡ false)
+    : (n : ℕ) (r : Rel) (u : ℕ) → first_on_cycle_of n r ≡ Some u → (u < n) × (r u u ≡ true) × ((v : ℕ) → v < u → r v v ≡ false)
 first_on_cycle_least = Searches.first_on_cycle_least
 
 -- Trees and the N.
@@ -55,21 +55,21 @@ pub tree_is_strict : (n : ℕ) (r : Rel) (t : Tree) → Means n t r → Strict n
 tree_is_strict = TreeOrder.tree_is_strict
 
 -- no N is found exactly when there is none
-pub first_n_none : (n : ℕ) (r : Rel) → (first_n_of n r ≡ none) ↔ (HasN n r → ⊥)
+pub first_n_none : (n : ℕ) (r : Rel) → (first_n_of n r ≡ None) ↔ (HasN n r → ⊥)
 first_n_none = Searches.first_n_none
 
 -- the N found is one, and no N is lexicographically smaller
-pub first_n_least : (n : ℕ) (r : Rel) (q : Four) → first_n_of n r ≡ some q → NAt n r q × ((p : Four) → NAt n r p → SmallerFour p q → ⊥)
+pub first_n_least : (n : ℕ) (r : Rel) (q : Four) → first_n_of n r ≡ Some q → NAt n r q × ((p : Four) → NAt n r p → SmallerFour p q → ⊥)
 first_n_least = Searches.first_n_least
 
 -- The canonical tree.
 
 -- the computed tree means its order and is canonical
-pub tree_of_sound : (n : ℕ) (r : Rel) (t : Tree) → Strict n r → tree_of n r ≡ some t → Means n t r × (canonical t ≡ true)
+pub tree_of_sound : (n : ℕ) (r : Rel) (t : Tree) → Strict n r → tree_of n r ≡ Some t → Means n t r × (canonical t ≡ true)
 tree_of_sound = Decomposition.tree_of_sound
 
 -- it is there wherever some tree, of whatever shape, means the order
-pub tree_of_complete : (n : ℕ) (r : Rel) → HasTree n r → (t : Tree) × (tree_of n r ≡ some t)
+pub tree_of_complete : (n : ℕ) (r : Rel) → HasTree n r → (t : Tree) × (tree_of n r ≡ Some t)
 tree_of_complete = Decomposition.tree_of_complete
 
 -- an order has at most one canonical tree
@@ -78,11 +78,11 @@ pub canonical_unique
 canonical_unique = Unique.canonical_unique
 
 -- the canonical tree that means an order is the computed one
-pub tree_of_means : (n : ℕ) (r : Rel) (t : Tree) → Means n t r → canonical t ≡ true → tree_of n r ≡ some t
+pub tree_of_means : (n : ℕ) (r : Rel) (t : Tree) → Means n t r → canonical t ≡ true → tree_of n r ≡ Some t
 tree_of_means = Decomposition.tree_of_means
 
 -- a canonical tree is the computed tree of its own order
-pub tree_of_canonical : (n : ℕ) (t : Tree) → Spans n t → canonical t ≡ true → tree_of n (precedes t) ≡ some t
+pub tree_of_canonical : (n : ℕ) (t : Tree) → Spans n t → canonical t ≡ true → tree_of n (precedes t) ≡ Some t
 tree_of_canonical = Decomposition.tree_of_canonical
 
 -- The two sequences.

@@ -1,6 +1,5 @@
 -- Small functions on lists.
-use Rattle.std.specs.Prelude.{ℕ, zero, suc, ◌+◌, List, [], ◌∷◌, Bool, true, false, eqb}
-use Rattle.std.proofs.Math.Option.{Option, none, some}
+use Rattle.std.specs.Prelude.{ℕ, zero, suc, ◌+◌, List, [], ◌∷◌, Option, None, Some, Bool, true, false, eqb}
 
 -- some element passes the test
 unfoldable pub exists {ℓ} : {A : Type ℓ} → (A → Bool) → List A → Bool
@@ -35,13 +34,13 @@ unfoldable pub below : ℕ → List ℕ
 below = up_from 0
 
 -- what f first finds over a list
-unfoldable pub first {ℓ κ} : {A : Type ℓ} {B : Type κ} → (A → Option B) → List A → Option B
-first f [] = none
-first f (x ∷ xs) = elim (f x) [ some b ↦ some b | none ↦ first f xs ]
+unfoldable pub first {ℓ} : {A : Type ℓ} {B : Type 0} → (A → Option B) → List A → Option B
+first f [] = None
+first f (x ∷ xs) = elim (f x) [ Some b ↦ Some b | None ↦ first f xs ]
 
-unfoldable pub only_if {ℓ} : {A : Type ℓ} → Bool → A → Option A
-only_if true a = some a
-only_if false a = none
+unfoldable pub only_if : {A : Type 0} → Bool → A → Option A
+only_if true a = Some a
+only_if false a = None
 
 -- u stands ahead of v in a list that has each of them once
 unfoldable pub ahead_in : ℕ → ℕ → List ℕ → Bool

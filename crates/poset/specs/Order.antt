@@ -1,7 +1,7 @@
 -- Arcs, the order that they generate, its transitive reduction, and the forbidden N.
 use Rattle.std.specs.Prelude.{ℕ, zero, suc, ◌<◌, ◌≡◌, Bool, true, false, ◌&&◌, ◌||◌, not, ◌⊎◌, eqb}
 use mathlib.Core.List.{List, [], ◌∷◌, map, flat_map, Memᴰ}
-use Rattle.std.proofs.Math.Option.{Option}
+use Rattle.std.specs.Prelude.{Option}
 use Rattle.poset.specs.Lists.{exists, keep, below, first, only_if}
 
 -- An arc: the first job is done before the second. (Document 01: an order.)

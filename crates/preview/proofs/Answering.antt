@@ -2,7 +2,7 @@
 use Prim.Native.Nat.{ℕ, ◌≤◌}
 use mathlib.Core.Path.{◌≡◌, sym, ap, ◌∙◌}
 use mathlib.Core.List.{List}
-use mathlib.Core.Option.{some}
+use Rattle.std.specs.Prelude.{Some}
 use lib.ListN.{length}
 use Rattle.poset.specs.Order.{Rel, Strict, covers, pairs_of}
 use Rattle.poset.specs.Tree.{Tree}
@@ -27,7 +27,7 @@ told_refused e = same_answer (sym e)
 
 -- an order that a tree means, and what is counted of its record and its reduction
 pub told_accepted
-    : (n : ℕ) → n ≤ 128 → (hours : List ℕ) (r : Rel) → Strict n r → (t : Tree) → tree_of n r ≡ some t → (w : Written) → w ≡ record_of n hours t
+    : (n : ℕ) → n ≤ 128 → (hours : List ℕ) (r : Rel) → Strict n r → (t : Tree) → tree_of n r ≡ Some t → (w : Written) → w ≡ record_of n hours t
     → (red : List (List ℕ)) → ((u v : ℕ) → holds red u v ≡ covers n r u v) → (count : ℕ) → count ≡ length (pairs_of n (holds red))
     → answer 0 w.count count w.groups 0 ≡ (decomposed roomy n hours r).verdict
 unfolding accept

@@ -2,7 +2,7 @@
 use Prim.Native.Nat.{ℕ, ◌/◌, ◌%◌, ◌≤◌, ◌<◌}
 use mathlib.Core.Path.{◌≡◌, sym, ap, fun_ext, ◌∙◌}
 use mathlib.Core.List.{List, [], ◌∷◌}
-use mathlib.Core.Option.{none, some}
+use Rattle.std.specs.Prelude.{None, Some}
 use mathlib.Core.Logic.Iff
 use mathlib.Core.Logic.{◌⊎◌, inl, inr, ⊎_elim, ◌≢◌, ◌↔◌}
 use native.Mathlib.Omega.{arith}
@@ -14,7 +14,7 @@ use Rattle.poset.proofs.Theorems.{before_is_run}
 use Rattle.relation.specs.Arcs.{pairs, place, outside, loop}
 use Rattle.relation.proofs.Chain.{outside_none}
 use Rattle.analysis.specs.Answer.{answer}
-use Rattle.analysis.specs.Claims.{None}
+use Rattle.analysis.specs.Claims.{NoneHolds}
 use Rattle.analysis.specs.Outcome.{roomy, pair_outcome, arc_outcome, listed, ordered}
 use Rattle.analysis.specs.Sentences.{First, limits, accepted}
 use Rattle.analysis.proofs.Aside.{none_large}
@@ -50,20 +50,20 @@ module _ (n : ℕ) (hours list : List ℕ) (drafted : (pair_outcome roomy n hour
   even : length list % 2 ≡ 0
   even = (accepted_clear n hours list drafted).0
 
-  clear : None (limits n hours arcs)
+  clear : NoneHolds (limits n hours arcs)
   clear = (accepted_clear n hours list drafted).1
 
-  none_outside : place (outside n) arcs ≡ none
+  none_outside : place (outside n) arcs ≡ None
   none_outside = no_place (outside n) _ (outside_is n) arcs clear.1.1.1.1.0
 
-  none_loops : place loop arcs ≡ none
+  none_loops : place loop arcs ≡ None
   none_loops = no_place loop _ loop_is arcs clear.1.1.1.1.1.0
 
   -- more arcs, not too many
   passed : (more : List Arc) → length more ≤ 4096 → arc_outcome roomy n hours more ≡ listed roomy n hours more
   passed more few =
-      let some = clear_count n hours arcs clear in
-      count_timed roomy n hours more some.0 some.1 few
+      let Some = clear_count n hours arcs clear in
+      count_timed roomy n hours more Some.0 Some.1 few
       ∙ timed_listed roomy n hours more (clear_each n hours arcs clear) (none_large hours (clear_low n hours arcs clear))
 
   few_arcs : length arcs ≤ 4096
@@ -88,10 +88,10 @@ module _ (n : ℕ) (hours list : List ℕ) (drafted : (pair_outcome roomy n hour
     unfolding previewed
     draft_5 far =
         sym (told_refused (draft_listed ∙ listed_5 roomy n hours more (length list / 2)
-        (place_last (outside n) arcs (a, b) none_outside ((outside_is n (a, b)).1 far) ∙ ap some size)))
+        (place_last (outside n) arcs (a, b) none_outside ((outside_is n (a, b)).1 far) ∙ ap Some size)))
 
     module _ (first_job : a < n) (second_job : b < n) where
-      inside : place (outside n) more ≡ none
+      inside : place (outside n) more ≡ None
       inside =
           place_nowhere (outside n) arcs (a, b) none_outside
           (false_unless (outside n (a, b)) (λ t. ⊎_elim (λ (l : n ≤ a). omega arith) (λ (l : n ≤ b). omega arith) ((outside_is n (a, b)).0 t)))
@@ -100,10 +100,10 @@ module _ (n : ℕ) (hours list : List ℕ) (drafted : (pair_outcome roomy n hour
       unfolding previewed
       draft_6 same =
           sym (told_refused (draft_listed ∙ listed_6 roomy n hours more (length list / 2) inside
-          (place_last loop arcs (a, b) none_loops ((loop_is (a, b)).1 same) ∙ ap some size)))
+          (place_last loop arcs (a, b) none_loops ((loop_is (a, b)).1 same) ∙ ap Some size)))
 
       module _ (differ : a ≢ b) where
-        no_loops : place loop more ≡ none
+        no_loops : place loop more ≡ None
         no_loops = place_nowhere loop arcs (a, b) none_loops (false_unless (loop (a, b)) (λ t. differ ((loop_is (a, b)).0 t)))
 
         draft_ordered : pair_outcome roomy n hours (with_order list a b) ≡ ordered roomy n hours (before n more)
@@ -123,7 +123,7 @@ module _ (n : ℕ) (hours list : List ℕ) (drafted : (pair_outcome roomy n hour
                 same_test (before n more u v) (before n arcs u v) (λ h. old.1 (none_new arcs a b run (new.0 h))) (λ h. new.1 (kept arcs a b (old.0 h)))
 
         -- the sentences ahead of 7 do not hold
-        ahead : None (take 6 (limits n hours more))
+        ahead : NoneHolds (take 6 (limits n hours more))
         ahead = (
           clear.0,
           (

@@ -2,7 +2,7 @@
 use Prim.Native.Nat.{ℕ}
 use mathlib.Core.Path.{◌≡◌, refl}
 use mathlib.Core.List.{List, [], ◌∷◌, map, flat_map}
-use mathlib.Core.Option.{bind}
+use Rattle.std.specs.Prelude.{option_and_then}
 use Rattle.poset.specs.Lists.{exists, keep, member, up_from, below, first, only_if}
 use Rattle.poset.specs.Order.{arc, via, before, first_on_cycle_of, comparable, incomparable, is_n, first_n_of, covers, pairs_of, reduction}
 use Rattle.poset.specs.Tree.{leaves, groups, outranks}
@@ -50,7 +50,7 @@ examples =
 
 pub shown_previews
     : map (λ (e : Example). previewed e.0 e.1 e.2 e.3 e.4) examples ≡ map (λ (e : Example). e.5) examples
-unfolding bind flat_map exists keep member up_from below first only_if arc via before first_on_cycle_of comparable incomparable is_n first_n_of covers pairs_of
+unfolding flat_map exists keep member up_from below first only_if arc via before first_on_cycle_of comparable incomparable is_n first_n_of covers pairs_of
     reduction leaves groups outranks gather components sorted placed arranged comes_first parts forest_of group_of decompose tree_of pairs place_from
     place outside loop bits packed bytes_of kind_bit more_children tree_bits layout refuse accept arcs_fit fitted decomposed ordered listed timed arc_outcome
     pair_outcome previewed

@@ -3,7 +3,8 @@ use Prim.Native.Nat.{ℕ, suc, ◌+◌, ◌*◌, ◌/◌, ◌%◌, ◌≤◌, �
 use mathlib.Core.Path.{◌≡◌, refl, sym, ap, ap₂, ◌∙◌}
 use mathlib.Core.List.{List, [], ◌∷◌, ◌++◌}
 use mathlib.Core.Bool.{Bool, true, false, ◌&&◌, ◌||◌, or_assoc}
-use mathlib.Core.Option.{Option, none, some, map, or_else}
+use Rattle.std.specs.Prelude.{Option, None, Some, option_map}
+use Rattle.std.specs.Option.{option_or}
 use mathlib.Core.Logic.{⊎_elim}
 use native.Mathlib.Omega.{arith}
 use lib.Dec.{eqb}
@@ -29,20 +30,19 @@ pairs_count xs ys = omega (arith, length-append (pairs xs) (pairs ys), pairs_len
 
 -- The first that passes a test: in the list, or else in the other, whose places count on.
 
-counted_zero : (o : Option ℕ) → o ≡ map (λ k. 0 + k) o
-counted_zero none = refl
-counted_zero (some k) = ap some (omega arith)
+counted_zero : (o : Option ℕ) → o ≡ option_map (λ k. 0 + k) o
+counted_zero None = refl
+counted_zero (Some k) = ap Some (omega arith)
 
 counted_suc : (n : ℕ) (o q : Option ℕ)
-    → map suc (or_else o (map (λ k. n + k) q)) ≡ or_else (map suc o) (map (λ k. suc n + k) q)
-unfolding or_else
-counted_suc n (some i) q = refl
-counted_suc n none none = refl
-counted_suc n none (some k) = ap some (omega arith)
+    → option_map suc (option_or o (option_map (λ k. n + k) q)) ≡ option_or (option_map suc o) (option_map (λ k. suc n + k) q)
+counted_suc n (Some i) q = refl
+counted_suc n None None = refl
+counted_suc n None (Some k) = ap Some (omega arith)
 
 module _ {ℓ} {A : Type ℓ} (p : A → Bool) where
-  pub place_append : (xs ys : List A) → place p (xs ++ ys) ≡ or_else (place p xs) (map (λ k. length xs + k) (place p ys))
-  unfolding place place_from or_else
+  pub place_append : (xs ys : List A) → place p (xs ++ ys) ≡ option_or (place p xs) (option_map (λ k. length xs + k) (place p ys))
+  unfolding place place_from
   place_append [] ys = counted_zero (place_from 0 p ys)
   place_append (x ∷ xs) ys =
       ⊎_elim
@@ -50,38 +50,36 @@ module _ {ℓ} {A : Type ℓ} (p : A → Bool) where
       (λ (e : p x ≡ false).
       rw (e, place_from)
       (shifted p 0 (xs ++ ys)
-      ∙ ap (map suc) (place_append xs ys)
+      ∙ ap (option_map suc) (place_append xs ys)
       ∙ counted_suc (length xs) (place_from 0 p xs) (place_from 0 p ys)
-      ∙ ap (λ o. or_else o (map (λ k. suc (length xs) + k) (place_from 0 p ys))) (sym (shifted p 0 xs))))
+      ∙ ap (λ o. option_or o (option_map (λ k. suc (length xs) + k) (place_from 0 p ys))) (sym (shifted p 0 xs))))
       (decided (p x))
 
-  pub place_below : (xs : List A) {k : ℕ} → place p xs ≡ some k → k < length xs
+  pub place_below : (xs : List A) {k : ℕ} → place p xs ≡ Some k → k < length xs
   place_below xs {k} e = first_below (place_first p (λ x. p x ≡ true) (λ x. (λ h. h, λ h. h)) xs k e)
 
   -- one element more
 
-  alone_yes : (x : A) → p x ≡ true → place p (x ∷ []) ≡ some 0
+  alone_yes : (x : A) → p x ≡ true → place p (x ∷ []) ≡ Some 0
   unfolding place place_from
   alone_yes x e = rw (e, place_from)
 
-  alone_not : (x : A) → p x ≡ false → place p (x ∷ []) ≡ none
+  alone_not : (x : A) → p x ≡ false → place p (x ∷ []) ≡ None
   unfolding place place_from
   alone_not x e = rw (e, place_from)
 
-  module _ (xs : List A) (x : A) (none_here : place p xs ≡ none) where
-    pub place_last : p x ≡ true → place p (xs ++ x ∷ []) ≡ some (length xs)
-    unfolding or_else
+  module _ (xs : List A) (x : A) (none_here : place p xs ≡ None) where
+    pub place_last : p x ≡ true → place p (xs ++ x ∷ []) ≡ Some (length xs)
     place_last e =
-        place_append xs (x ∷ []) ∙ ap₂ (λ o q. or_else o (map (λ k. length xs + k) q)) none_here (alone_yes x e) ∙ ap some (omega arith)
+        place_append xs (x ∷ []) ∙ ap₂ (λ o q. option_or o (option_map (λ k. length xs + k) q)) none_here (alone_yes x e) ∙ ap Some (omega arith)
 
-    pub place_nowhere : p x ≡ false → place p (xs ++ x ∷ []) ≡ none
-    unfolding or_else
-    place_nowhere e = place_append xs (x ∷ []) ∙ ap₂ (λ o q. or_else o (map (λ k. length xs + k) q)) none_here (alone_not x e)
+    pub place_nowhere : p x ≡ false → place p (xs ++ x ∷ []) ≡ None
+    place_nowhere e = place_append xs (x ∷ []) ∙ ap₂ (λ o q. option_or o (option_map (λ k. length xs + k) q)) none_here (alone_not x e)
 
 -- what two searches find in flat lists
 pub places_append
     : (p : Arc → Bool) (xs ys : List ℕ) {o q r : Option ℕ} → o ≡ place p (pairs xs) → q ≡ place p (pairs ys)
-    → r ≡ or_else o (map (λ k. length xs / 2 + k) q) → r ≡ place p (pairs xs ++ pairs ys)
+    → r ≡ option_or o (option_map (λ k. length xs / 2 + k) q) → r ≡ place p (pairs xs ++ pairs ys)
 places_append p xs ys e f h = h ∙ rw (e, f, sym (pairs_length xs)) (sym (place_append p (pairs xs) (pairs ys)))
 
 -- The table: what it holds, and the arcs of the other list from k on.

@@ -11,7 +11,7 @@ use Rattle.poset.specs.Tree.{Tree, groups, Means, canonical}
 use Rattle.relation.specs.Arcs.{pairs}
 use Rattle.record.specs.Layout.{layout}
 use Rattle.analysis.specs.Answer.{answer}
-use Rattle.analysis.specs.Claims.{None, Named, Unnamed, Yield}
+use Rattle.analysis.specs.Claims.{NoneHolds, Named, Unnamed, Yield}
 use Rattle.analysis.specs.Outcome.{roomy, pair_outcome, arc_outcome}
 use Rattle.analysis.specs.Sentences.{Check, First, PairNumber, limits, crossing, accepted}
 use Rattle.analysis.proofs.Checks.{Other, unheld}
@@ -38,7 +38,7 @@ not_zero k l e = omega (arith, l, e)
 -- an accepted list has no half order, and no sentence tested ahead of 8 holds
 pub accepted_clear
     : (n : ℕ) (hours list : List ℕ) → (pair_outcome roomy n hours list).verdict.number ≡ 0
-    → (length list % 2 ≡ 0) × None (limits n hours (pairs list))
+    → (length list % 2 ≡ 0) × NoneHolds (limits n hours (pairs list))
 accepted_clear n hours list zero = by (subst (PairNumber roomy n hours list) zero (number_pairs roomy n hours list))
   where
     others : Other 0 (limits n hours (pairs list))
@@ -53,7 +53,7 @@ accepted_clear n hours list zero = by (subst (PairNumber roomy n hours list) zer
       ),
     )
 
-    by : PairNumber roomy n hours list 0 → (length list % 2 ≡ 0) × None (limits n hours (pairs list))
+    by : PairNumber roomy n hours list 0 → (length list % 2 ≡ 0) × NoneHolds (limits n hours (pairs list))
     by (inl h) = absurd (not_zero 2 (omega arith) h.1)
     by (inr (even, f)) = (omega arith, unheld accepted 0 (limits n hours (pairs list)) (crossing roomy n hours (pairs list)) others f)
 

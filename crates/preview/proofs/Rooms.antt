@@ -3,7 +3,7 @@ use Prim.Native.Nat.{ℕ, ◌*◌, ◌%◌, ◌≤◌, ◌<◌}
 use mathlib.Core.Path.{◌≡◌, refl, sym, ap, subst, ◌∙◌}
 use mathlib.Core.List.{List}
 use mathlib.Core.Bool.{Bool, true, false, ◌||◌}
-use mathlib.Core.Option.{Option, none, some}
+use Rattle.std.specs.Prelude.{Option, None, Some}
 use mathlib.Core.Logic.{◌≢◌}
 use native.Mathlib.Decide.{dec_lt}
 use native.Mathlib.Omega.{arith}
@@ -49,10 +49,10 @@ module _ (rs : Rooms) where
   in_test false p q = q refl
 
   in_search
-      : {A : Type 0} {x u : A → Outcome} {y v : Outcome} (o : Option A) → ((a : A) → o ≡ some a → InRooms rs (x a) (u a)) → (o ≡ none → InRooms rs y v)
-      → InRooms rs (elim o [ some a ↦ x a | none ↦ y ]) (elim o [ some a ↦ u a | none ↦ v ])
-  in_search (some a) p q = p a refl
-  in_search none p q = q refl
+      : {A : Type 0} {x u : A → Outcome} {y v : Outcome} (o : Option A) → ((a : A) → o ≡ Some a → InRooms rs (x a) (u a)) → (o ≡ None → InRooms rs y v)
+      → InRooms rs (elim o [ Some a ↦ x a | None ↦ y ]) (elim o [ Some a ↦ u a | None ↦ v ])
+  in_search (Some a) p q = p a refl
+  in_search None p q = q refl
 
   module _ (n : ℕ) (hours : List ℕ) where
     module _ (few : n ≤ 128) where

@@ -1,6 +1,7 @@
 //! The arcs of a list and, at its end, those of another.
 ghost use Rattle.std.specs.Prelude.{ℕ, ◌+◌, ◌<◌, ◌^◌, ◌≡◌, ◌++◌};
-ghost use Rattle.std.proofs.Math.Option.{some, map, or_else};
+ghost use Rattle.std.specs.Prelude.{Some, option_map};
+ghost use Rattle.std.specs.Option.{option_or};
 ghost use Rattle.poset.specs.Order.{Within, arc};
 ghost use Rattle.relation.specs.Table.{holds};
 ghost use Rattle.relation.specs.Arcs.{pairs, place, outside, loop, found};
@@ -9,8 +10,8 @@ use relation::{Found, arcs, set};
 
 // The first of two places, the second in a list that has so many arcs ahead of it.
 fn first_of(ahead: Found, behind: Found, count: usize) -> Found
-    requires { (count < 2 ^ 63) × ((k : ℕ) → found behind ≡ some k → k < 2 ^ 63) }
-    ensures { found result ≡ or_else (found ahead) (map (λ k. count + k) (found behind)) }
+    requires { (count < 2 ^ 63) × ((k : ℕ) → found behind ≡ Some k → k < 2 ^ 63) }
+    ensures { found result ≡ option_or (found ahead) (option_map (λ k. count + k) (found behind)) }
 {
     match ahead {
         Found::At(i) => Found::At(i),

@@ -1,6 +1,6 @@
 //! A count, hours, and the arcs of two lists: the refusals 3, 4, 12, 13, 5 and 6, and then the order.
 ghost use Rattle.std.specs.Prelude.{◌<◌, ◌≤◌, ◌^◌, ◌≡◌, ◌++◌, length};
-ghost use Rattle.std.proofs.Math.Option.{none};
+ghost use Rattle.std.specs.Prelude.{None};
 ghost use Rattle.relation.specs.Arcs.{pairs, place, outside};
 ghost use Rattle.record.specs.Bits.{AllBelow};
 ghost use Rattle.record.specs.Layout.{hours_bits};
@@ -15,7 +15,7 @@ use relation::Found;
 fn of_named(n: u16, list: &[u16], last: &[u16], hours: &[u16]) -> Verdict
     requires n_nonzero { (0 < n) × (n ≤ 128) }
     requires hours_len { (length hours.now ≡ n) × AllBelow (2 ^ hours_bits) hours.now }
-    requires last_value { place (outside n) (pairs list.now ++ pairs last.now) ≡ none }
+    requires last_value { place (outside n) (pairs list.now ++ pairs last.now) ≡ None }
     ensures { answer_of result ≡ (listed roomy n hours.now (pairs list.now ++ pairs last.now)).verdict }
 {
     let own = ends::first_loop(list, last);

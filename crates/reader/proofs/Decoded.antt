@@ -3,7 +3,7 @@ use Prim.Native.Nat.{ℕ, ◌-◌, ◌^◌, ◌≤◌}
 use mathlib.Core.Path.{◌≡◌, refl, sym, ap, subst, ◌∙◌, fun_ext}
 use mathlib.Core.List.{List}
 use mathlib.Core.Bool.{true, false}
-use mathlib.Core.Option.{Option, none, some}
+use Rattle.std.specs.Prelude.{Option, None, Some}
 use lib.ListN.{length, take, replicate}
 use lib.Seq.{take_at}
 use Rattle.poset.specs.Areas.{padded}
@@ -27,7 +27,7 @@ pub record Decoded (bytes : List ℕ) (x : NodeList) : Type 0 where
   pub jobs : ℕ
   pub tree : Tree
   pub hours : List ℕ
-  pub decodes : decode bytes ≡ some (jobs, tree, hours)
+  pub decodes : decode bytes ≡ Some (jobs, tree, hours)
   pub spells : IsRecord bytes jobs tree hours
   pub jobs_are : x.jobs ≡ jobs
   pub count_is : x.count ≡ length (tokens tree)
@@ -39,8 +39,8 @@ module _ (bytes : List ℕ) (x : NodeList) (reads : x ≡ nodes (decode bytes)) 
   decoded small ok = go (decode bytes) refl reads
     where
       go : (o : Option (ℕ × Tree × List ℕ)) → decode bytes ≡ o → x ≡ nodes o → Decoded bytes x
-      go none e h = absurd (clash ok (ap (λ (r : NodeList). r.ok) h))
-      go (some (n, t, hours)) e h =
+      go None e h = absurd (clash ok (ap (λ (r : NodeList). r.ok) h))
+      go (Some (n, t, hours)) e h =
           record {
             jobs = n;
             tree = t;
@@ -53,12 +53,12 @@ module _ (bytes : List ℕ) (x : NodeList) (reads : x ≡ nodes (decode bytes)) 
             hours_are = ap (λ (r : NodeList). r.hours) h;
           }
 
-  pub undecoded : x.ok ≡ false → decode bytes ≡ none
+  pub undecoded : x.ok ≡ false → decode bytes ≡ None
   undecoded bad = go (decode bytes) refl reads
     where
-      go : (o : Option (ℕ × Tree × List ℕ)) → decode bytes ≡ o → x ≡ nodes o → decode bytes ≡ none
-      go none e h = e
-      go (some y) e h = absurd (clash (ap (λ (r : NodeList). r.ok) h) bad)
+      go : (o : Option (ℕ × Tree × List ℕ)) → decode bytes ≡ o → x ≡ nodes o → decode bytes ≡ None
+      go None e h = e
+      go (Some y) e h = absurd (clash (ap (λ (r : NodeList). r.ok) h) bad)
 
 module _ {bytes : List ℕ} {x : NodeList} (d : Decoded bytes x) where
   -- the hours of each job, with zeros after them or without

@@ -2,7 +2,7 @@
 use Prim.Native.Nat.{ℕ, suc, ◌+◌, ◌^◌, ◌<◌}
 use mathlib.Core.Path.{◌≡◌, refl, sym, ap, subst, ◌∙◌}
 use mathlib.Core.List.{List, ◌∷◌, ◌++◌}
-use mathlib.Core.Option.{some-injective}
+use Rattle.std.proofs.lemmas.Option.{same_Some}
 use native.Mathlib.Omega.{arith}
 use lib.ListN.{length, get_or, drop, length-append}
 use Rattle.poset.specs.Tree.{Kind, series, parallel, Tree, leaf, node, Forest, more, leaves, forest_leaves, groups}
@@ -23,7 +23,7 @@ module _ {bs : List ℕ} {at : ℕ} where
   one_tree g h low_g low_h s t small_s small_t p q =
       let d : ℕ = suc (groups s + groups t) in
       ap (λ (r : (Tree × List ℕ) × List ℕ). r.0.0)
-      (some-injective _ _
+      (same_Some _ _
       (sym (read_tree_lem g low_g s d small_s (omega arith) (drop (at + length (tree_bits g s)) bs))
       ∙ ap (read_tree d) (sym p.these ∙ q.these)
       ∙ read_tree_lem h low_h t d small_t (omega arith) (drop (at + length (tree_bits h t)) bs)))

@@ -2,7 +2,7 @@
 use Prim.Native.Nat.{ℕ, ◌+◌, ◌^◌, ◌≤◌, ◌<◌}
 use mathlib.Core.Path.{◌≡◌, sym, ap, ◌∙◌}
 use mathlib.Core.List.{List, [], ◌++◌, append_assoc}
-use mathlib.Core.Option.{some-injective}
+use Rattle.std.proofs.lemmas.Option.{same_Some}
 use native.Mathlib.Omega.{arith}
 use lib.ListN.{length, take, drop, length-append, length-drop}
 use lib.Seq.{take-append_seam, drop-append_seam, drop-drop}
@@ -54,4 +54,4 @@ module _ {bs : List ℕ} {at : ℕ} where
 pub bits_injective : (k x y : ℕ) → x < 2 ^ k → y < 2 ^ k → bits k x ≡ bits k y → x ≡ y
 bits_injective k x y p q e =
     ap (λ (r : ℕ × List ℕ). r.0)
-    (some-injective _ _ (sym (read_back k x [] p) ∙ ap (λ (l : List ℕ). read_bits k (l ++ [])) e ∙ read_back k y [] q))
+    (same_Some _ _ (sym (read_back k x [] p) ∙ ap (λ (l : List ℕ). read_bits k (l ++ [])) e ∙ read_back k y [] q))

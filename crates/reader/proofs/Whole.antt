@@ -3,7 +3,7 @@ use Prim.Native.Nat.{ℕ, suc, ◌+◌, ◌-◌, ◌*◌, ◌^◌, ◌≤◌, �
 use mathlib.Core.Path.{◌≡◌, sym, ap, ap₂, subst, ◌∙◌}
 use mathlib.Core.List.{List, ◌++◌, Memᴰ}
 use mathlib.Core.Bool.{true, false}
-use mathlib.Core.Option.{some}
+use Rattle.std.specs.Prelude.{Some}
 use native.Mathlib.Omega.{arith}
 use lib.ListN.{length, get_or, take, drop, replicate, length-append, length-replicate, get_or-replicate}
 use lib.Seq.{drop_at}
@@ -194,7 +194,7 @@ module _ (bytes : List ℕ) (m : ℕ) (count : FieldAt (bits_of bytes) 0 7 m) (f
   whole_some small ok all filled =
       let (t, _, free_t, placed) = r.some ok in
       let Told : ℕ → Type 0 = λ n.
-      (decode bytes ≡ some (n, t, take n v.hours)) × (n ≤ 128) × (walk v.next n p.first ≡ reversed t)
+      (decode bytes ≡ Some (n, t, take n v.hours)) × (n ≤ 128) × (walk v.next n p.first ≡ reversed t)
       × AllBelow 128 (walk v.next n p.first) × (v.hours ≡ padded (take n v.hours)) in
       let told : Told (m + 1) = (
         (decode_record bytes (m + 1) t (take (m + 1) v.hours) small).1 (read_whole small ok all filled),

@@ -1,7 +1,7 @@
 -- What is owed of a record as a whole: its tree's part, and the lists that are filled beside it.
 -- For inner contracts alone: who reads the promises of read_record, read_nodes and order_of need not believe it, but specs/Answer.antt.
 use Rattle.std.specs.Prelude.{ℕ, ◌≤◌, ◌≡◌, List, true, false, take, replicate}
-use Rattle.std.proofs.Math.Option.{none, some}
+use Rattle.std.specs.Prelude.{None, Some}
 use Rattle.poset.specs.Areas.{padded}
 use Rattle.poset.specs.Tree.{Tree, leaves, reversed, groups}
 use Rattle.record.specs.Bits.{AllBelow}
@@ -17,7 +17,7 @@ pub record Blank (forward next hours : List ℕ) : Type 0 where
 
 -- the bytes are the record of this tree, whose part and lists these are; the reverse sequence is the walk from the part's first job
 pub record Holds (bytes forward next hours : List ℕ) (p : Part) (t : Tree) : Type 0 where
-  pub decoded : decode bytes ≡ some (p.done, t, take p.done hours)
+  pub decoded : decode bytes ≡ Some (p.done, t, take p.done hours)
   pub few : p.done ≤ 128
   pub inner : p.groups ≡ groups t
   pub forth : forward ≡ padded (leaves t)
@@ -28,4 +28,4 @@ pub record Holds (bytes forward next hours : List ℕ) (p : Part) (t : Tree) : T
 -- the part tells whether the bytes are a record
 pub record WholeRead (bytes forward next hours : List ℕ) (p : Part) : Type 0 where
   pub some : p.ok ≡ true → (t : Tree) × Holds bytes forward next hours p t
-  pub none : p.ok ≡ false → decode bytes ≡ none
+  pub none : p.ok ≡ false → decode bytes ≡ None

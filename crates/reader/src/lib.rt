@@ -9,7 +9,7 @@ mod nodes;
 mod parts;
 
 ghost use Rattle.std.specs.Prelude.{◌≡◌, ◌≤◌};
-ghost use Rattle.std.proofs.Math.Option.{none};
+ghost use Rattle.std.specs.Prelude.{None};
 ghost use Rattle.record.specs.Bits.{AllBelow};
 ghost use Rattle.record.specs.Decode.{decode};
 ghost use Rattle.reader.specs.Answer.{reading, nodes};
@@ -36,7 +36,7 @@ pub struct Reading {
 }
 
 fn no_record() -> Reading
-    ensures { result ≡ reading none }
+    ensures { result ≡ reading None }
 {
     Reading {
         ok: false,
@@ -130,7 +130,7 @@ pub struct NodeList {
 }
 
 fn no_nodes() -> NodeList
-    ensures { result ≡ nodes none }
+    ensures { result ≡ nodes None }
 {
     NodeList {
         ok: false,

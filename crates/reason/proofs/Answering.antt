@@ -4,7 +4,7 @@ use mathlib.Core.Path.{◌≡◌, refl, ap, ◌∙◌}
 use mathlib.Core.Bool.{true, false, ◌&&◌}
 use mathlib.Core.List.{List}
 use mathlib.Core.Logic.{◌⊎◌, inl, inr}
-use mathlib.Core.Option.{none}
+use Rattle.std.specs.Prelude.{None}
 use native.Mathlib.Omega.{arith}
 use lib.Dec.{ltb}
 use lib.ListN.{length}
@@ -21,7 +21,7 @@ use Rattle.reason.specs.Rows.{Sought, Decided}
 use Rattle.reason.specs.declared.seeking.Decision.{Decision}
 use Rattle.reason.proofs.Lowest.{lowest_at, lowest_only}
 
-pub shows_11 : (bytes : List ℕ) (u v : ℕ) → decode bytes ≡ none
+pub shows_11 : (bytes : List ℕ) (u v : ℕ) → decode bytes ≡ None
     → Shows (reason_outcome bytes u v) (record { verdict = verdict.NoRecord; rule = 0; position = 0; jobs = 0 })
 unfolding reason_outcome
 shows_11 bytes u v e = rw (reason_outcome, e) (record { answers = refl; rule_is = refl; position_is = refl; jobs_are = refl })

@@ -2,7 +2,7 @@
 use Prim.Native.Nat.{ℕ}
 use mathlib.Core.Path.{◌≡◌, refl}
 use mathlib.Core.List.{List, [], ◌∷◌, map}
-use mathlib.Core.Option.{bind}
+use Rattle.std.specs.Prelude.{option_and_then}
 use Rattle.poset.specs.Lists.{exists, keep, member, occurrences, up_from, below, only_if}
 use Rattle.poset.specs.Tree.{leaves, least, alternates, outranks, ahead, canonical}
 use Rattle.record.specs.Bits.{bits, bits_of}
@@ -61,7 +61,7 @@ examples =
     ∷ []
 
 pub shown_reasons : map (λ (e : Example). reason_outcome e.0 e.1 e.2) examples ≡ map (λ (e : Example). e.3) examples
-unfolding bind exists keep member occurrences up_from below only_if leaves least alternates outranks ahead canonical
+unfolding exists keep member occurrences up_from below only_if leaves least alternates outranks ahead canonical
     bits bits_of read_bits kind_of read_forest grouped read_tree every fills spanning beside decode
     preorder over after found_in lowest child_of rule tree_reason reason_outcome
 shown_reasons = refl

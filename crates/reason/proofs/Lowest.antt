@@ -4,12 +4,13 @@ use mathlib.Core.Path.{◌≡◌, refl, sym, ap, ap₂, subst, ◌∙◌}
 use mathlib.Core.List.Memᴰ
 use mathlib.Core.List.{List, [], ◌∷◌, ◌++◌, map, flat_map, map-append, append-nil, Memᴰ}
 use mathlib.Core.Bool.{true, false}
-use mathlib.Core.Option
-use mathlib.Core.Option.{Option, none, some, some-injective}
+use Rattle.std.specs.Prelude.{Option, None, Some, option_map}
+use Rattle.std.proofs.lemmas.Option.{same_Some}
 use mathlib.Core.Logic.{◌⊎◌, inl, inr, ⊎_elim}
 use native.Mathlib.Nat.{zero-add, suc-add}
 use native.Mathlib.Omega.{arith}
-use lib.ListN.{length, length-append, length-map, get_elem?, drop}
+use lib.ListN.{length, length-append, length-map, drop}
+use Rattle.std.specs.Prelude.{slice_get}
 use Rattle.poset.specs.Lists.{member, only_if}
 use Rattle.poset.specs.Order.{Rel}
 use Rattle.poset.specs.Tree.{Kind, Tree, leaf, node, Forest, last, more, leaves, forest_leaves, groups}
@@ -25,25 +26,25 @@ use Rattle.reason.specs.Lowest.{preorder, forest_preorder, over, Placed, after, 
 
 -- what stands at a position of a list
 
-module _ {ℓ} {A : Type ℓ} where
-  pub element_mem : (xs : List A) (i : ℕ) {x : A} → get_elem? xs i ≡ some x → Memᴰ x xs
+module _ {A : Type 0} where
+  pub element_mem : (xs : List A) (i : ℕ) {x : A} → slice_get xs i ≡ Some x → Memᴰ x xs
   element_mem [] i e = absurd (found_clash e refl)
-  element_mem (y ∷ xs) zero {x} e = Memᴰ.head (sym (some-injective y x e))
+  element_mem (y ∷ xs) zero {x} e = Memᴰ.head (sym (same_Some y x e))
   element_mem (y ∷ xs) (suc i) e = Memᴰ.tail (element_mem xs i e)
 
-  element_below : (xs : List A) (i : ℕ) {x : A} → get_elem? xs i ≡ some x → i < length xs
+  element_below : (xs : List A) (i : ℕ) {x : A} → slice_get xs i ≡ Some x → i < length xs
   element_below [] i e = absurd (found_clash e refl)
   element_below (y ∷ xs) zero e = omega arith
   element_below (y ∷ xs) (suc i) e = omega (arith, element_below xs i e)
 
-  element_append : (xs ys : List A) (i : ℕ) {x : A} → get_elem? (xs ++ ys) i ≡ some x
-      → (get_elem? xs i ≡ some x) ⊎ ((j : ℕ) × (i ≡ length xs + j) × (get_elem? ys j ≡ some x))
+  element_append : (xs ys : List A) (i : ℕ) {x : A} → slice_get (xs ++ ys) i ≡ Some x
+      → (slice_get xs i ≡ Some x) ⊎ ((j : ℕ) × (i ≡ length xs + j) × (slice_get ys j ≡ Some x))
   element_append [] ys i e = inr (i, omega arith, e)
   element_append (y ∷ xs) ys zero e = inl e
   element_append (y ∷ xs) ys (suc i) e =
       ⊎_elim (λ h. inl h) (λ h. let (j, place, l) = h in inr (j, omega (arith, place), l)) (element_append xs ys i e)
 
-pub stands_below : (t : Tree) (p : ℕ) {s : Tree} → get_elem? (preorder t) p ≡ some s → p < length (preorder t)
+pub stands_below : (t : Tree) (p : ℕ) {s : Tree} → slice_get (preorder t) p ≡ Some s → p < length (preorder t)
 stands_below t = element_below (preorder t)
 
 -- a token for each node, so as many as leaves and groups
@@ -96,7 +97,7 @@ mutual
   forest_node (last t) m = tree_node t m
   forest_node (more t f) m = ⊎_elim (λ a. first (tree_node t a)) (λ b. others (forest_node f b)) (Memᴰ.append_cases (preorder t) m)
 
-pub stands_node : (t : Tree) (p : ℕ) {s : Tree} → get_elem? (preorder t) p ≡ some s → NodeOf s (last t)
+pub stands_node : (t : Tree) (p : ℕ) {s : Tree} → slice_get (preorder t) p ≡ Some s → NodeOf s (last t)
 stands_node t p e = tree_node t (element_mem (preorder t) p e)
 
 -- the jobs of a node are the forest's, and so are its groups
@@ -162,8 +163,8 @@ module _ (u v : ℕ) where
 
   -- what a search of a list gives
   abbrev Sought : List Tree → Option Placed → Type 0
-  Sought xs none = NoneOver xs
-  Sought xs (some s) = LastOver xs s.0 s.1
+  Sought xs None = NoneOver xs
+  Sought xs (Some s) = LastOver xs s.0 s.1
 
   -- what a search of a tree gives, where it is over both
   abbrev Found : Tree → Placed → Type 0
@@ -173,10 +174,10 @@ module _ (u v : ℕ) where
   unfolding preorder
   none_here t e = none_under (last t) (λ p q. clash (in_over t p q) e)
 
-  later_sought : (xs ys : List Tree) (o : Option Placed) → NoneOver xs → Sought ys o → Sought (xs ++ ys) (Option.map (after (length xs)) o)
+  later_sought : (xs ys : List Tree) (o : Option Placed) → NoneOver xs → Sought ys o → Sought (xs ++ ys) (option_map (after (length xs)) o)
   unfolding after
-  later_sought xs ys none a b = none_append xs ys a b
-  later_sought xs ys (some s) a b = last_right xs b
+  later_sought xs ys None a b = none_append xs ys a b
+  later_sought xs ys (Some s) a b = last_right xs b
 
   group_sought : (t : Tree) (f : Forest) (h : Placed) (o : Option Placed) → Apart t f → Found t h → Sought (forest_preorder f) o
       → Sought (preorder t ++ forest_preorder f) (found_in u v t h o)
@@ -188,10 +189,10 @@ module _ (u v : ℕ) where
       (decided (over u v t))
 
   node_sought : (k : Kind) (t : Tree) (f : Forest) (o : Option Placed) → Sought (preorder t ++ forest_preorder f) o
-      → Found (node k t f) (elim o [ some s ↦ after 1 s | none ↦ (0, node k t f) ])
+      → Found (node k t f) (elim o [ Some s ↦ after 1 s | None ↦ (0, node k t f) ])
   unfolding preorder after
-  node_sought k t f none x h = here h x x
-  node_sought k t f (some s) x h = last_right (node k t f ∷ []) x
+  node_sought k t f None x h = here h x x
+  node_sought k t f (Some s) x h = last_right (node k t f ∷ []) x
 
   only_sought : (t : Tree) (h : Placed) → Found t h → Sought (preorder t) (only_if (over u v t) h)
   unfolding only_if
@@ -213,7 +214,7 @@ module _ (u v : ℕ) where
 
   -- what is found stands there, is over both, and none below it is
 
-  last_stands : {xs : List Tree} {p : ℕ} {s : Tree} → LastOver xs p s → get_elem? xs p ≡ some s
+  last_stands : {xs : List Tree} {p : ℕ} {s : Tree} → LastOver xs p s → slice_get xs p ≡ Some s
   last_stands (here h b a) = refl
   last_stands (there l) = last_stands l
 
@@ -230,7 +231,7 @@ module _ (u v : ℕ) where
 
   module _ (s : Tree) (both : over u v s ≡ true) (none_below : NoneOver (drop 1 (preorder s))) where
     abbrev IsLast : List Tree → Type 0
-    IsLast xs = (p : ℕ) → get_elem? xs p ≡ some s → LastOver xs p s
+    IsLast xs = (p : ℕ) → slice_get xs p ≡ Some s → LastOver xs p s
 
     own_last : (t : Tree) → t ≡ s → LastOver (preorder t) 0 s
     own_last t e = subst (λ (xs : List Tree). LastOver xs 0 s) (sym (ap preorder e ∙ tree_first s)) (here both none_below none_below)
@@ -238,10 +239,10 @@ module _ (u v : ℕ) where
     group_last : (t : Tree) (f : Forest) → Apart t f → IsLast (preorder t) → IsLast (forest_preorder f) → IsLast (preorder t ++ forest_preorder f)
     group_last t f apart x y p e =
         ⊎_elim
-        (λ (l : get_elem? (preorder t) p ≡ some s).
+        (λ (l : slice_get (preorder t) p ≡ Some s).
         let under = node_in u (stands_node t p l) (over_in s both).0 in
         last_left (forest_preorder f) (x p l) (none_under f (λ i j. apart u under i)))
-        (λ (l : (q : ℕ) × (p ≡ length (preorder t) + q) × (get_elem? (forest_preorder f) q ≡ some s)).
+        (λ (l : (q : ℕ) × (p ≡ length (preorder t) + q) × (slice_get (forest_preorder f) q ≡ Some s)).
         let (q, place, i) = l in
         subst (λ (k : ℕ). LastOver (preorder t ++ forest_preorder f) k s) (sym place) (last_right (preorder t) (y q i)))
         (element_append (preorder t) (forest_preorder f) p e)
@@ -250,9 +251,9 @@ module _ (u v : ℕ) where
       unfolding preorder
 
       tree_last : (t : Tree) → Once t → IsLast (preorder t)
-      tree_last (leaf j) o zero e = own_last (leaf j) (some-injective (leaf j) s e)
+      tree_last (leaf j) o zero e = own_last (leaf j) (same_Some (leaf j) s e)
       tree_last (leaf j) o (suc p) e = absurd (found_clash e refl)
-      tree_last (node k t f) o zero e = own_last (node k t f) (some-injective (node k t f) s e)
+      tree_last (node k t f) o zero e = own_last (node k t f) (same_Some (node k t f) s e)
       tree_last (node k t f) o (suc p) e = there (group_last t f o.2 (λ q h. tree_last t o.0 q h) (λ q h. forest_last f o.1 q h) p e)
 
       forest_last : (f : Forest) → OnceForest f → IsLast (forest_preorder f)

@@ -3,11 +3,12 @@ use Prim.Native.Nat.{ℕ, zero, suc, ◌≤◌, ◌<◌}
 use mathlib.Core.Path.{◌≡◌, refl, sym, ap, ap₂, subst, ◌∙◌}
 use mathlib.Core.List.{Memᴰ}
 use mathlib.Core.Bool.{Bool, true, false, cond}
-use mathlib.Core.Option.{some}
+use Rattle.std.specs.Prelude.{Some}
 use mathlib.Core.Logic.{◌⊎◌, inl, inr, ⊎_elim, ◌↔◌}
 use native.Mathlib.Omega.{arith}
 use lib.Dec.{ltb}
-use lib.ListN.{get_elem?, drop}
+use lib.ListN.{drop}
+use Rattle.std.specs.Prelude.{slice_get}
 use Rattle.poset.specs.Lists.{member, ahead_in}
 use Rattle.poset.specs.Order.{Rel}
 use Rattle.poset.specs.Tree.{Kind, series, parallel, Tree, leaf, node, Forest, last, more, trees, leaves, forest_leaves}
@@ -36,7 +37,7 @@ module _ (u : ℕ) (t : Tree) (f : Forest) where
   unfolding child_of
   child_later lacks = rw (false_unless (member u (leaves t)) (λ h. lacks (leaves_in t (member_mem u (leaves t) h))))
 
-pub child_is : (f : Forest) → Distinct (forest_leaves f) → (i : ℕ) (c : Tree) → get_elem? (trees f) i ≡ some c
+pub child_is : (f : Forest) → Distinct (forest_leaves f) → (i : ℕ) (c : Tree) → slice_get (trees f) i ≡ Some c
     → (u : ℕ) → Memᴰ u (leaves c) → child_of u f ≡ i
 unfolding trees leaves child_of
 child_is (last t) d zero c e u m = refl
@@ -50,7 +51,7 @@ child_is (more t f) d (suc i) c e u m =
     ∙ ap suc (child_is f (λ w. omega (arith, d w, count_append w (leaves t) (forest_leaves f))) i c e u m)
 
 pub rule_series : (t : Tree) (f : Forest) → Distinct (leaves (node series t f)) → (i j : ℕ) (c d : Tree)
-    → get_elem? (trees (more t f)) i ≡ some c → get_elem? (trees (more t f)) j ≡ some d
+    → slice_get (trees (more t f)) i ≡ Some c → slice_get (trees (more t f)) j ≡ Some d
     → (u v : ℕ) → Memᴰ u (leaves c) → Memᴰ v (leaves d) → rule u v (node series t f) ≡ cond (ltb i j) 2 3
 unfolding leaves rule
 rule_series t f once i j c d p q u v a b = rw (child_is (more t f) once i c p u a, child_is (more t f) once j d q v b)

@@ -4,12 +4,14 @@ use mathlib.Core.Path.{◌≡◌, refl, sym, ap, subst, ◌∙◌}
 use mathlib.Core.Bool.{Bool, true, false, ◌&&◌, ◌||◌, cond}
 use mathlib.Core.List.{List, [], ◌∷◌, ◌++◌, flat_map, append-nil, append_assoc, Memᴰ}
 use mathlib.Core.Logic.{◌⊎◌, inl, inr, ⊎_elim}
-use mathlib.Core.Option.{some, some-injective}
+use Rattle.std.specs.Prelude.{Some}
+use Rattle.std.proofs.lemmas.Option.{same_Some}
 use borrow.Author.Tests.{eq-eqb, ne_eqb}
 use native.Mathlib.Decide.{dec_lt}
 use native.Mathlib.Omega.{arith}
 use lib.Dec.{eqb, ltb}
-use lib.ListN.{length, get_or, get_elem?, drop, take-append-drop, length-drop, length-append}
+use lib.ListN.{length, get_or, drop, take-append-drop, length-drop, length-append}
+use Rattle.std.specs.Prelude.{slice_get}
 use lib.Seq.{drop-append-le}
 use Rattle.poset.specs.Lists.{exists, member, ahead_in}
 use Rattle.poset.specs.Order.{Rel}
@@ -133,16 +135,16 @@ row_below (node k t f) rest m = mathlib.Core.List.Memᴰ.append_left (flat_map p
 
 -- its token
 step_token : {x : ℕ} {ts us : List Tree} → Step x ts us → (s : Tree) (rest : List Tree) → us ≡ s ∷ rest → x ≡ token s
-step_token (one_leaf j) s rest e = ap token (some-injective (leaf j) s (ap (λ (l : List Tree). get_elem? l 0) e))
-step_token (one_group k t f) s rest e = ap token (some-injective (node k t f) s (ap (λ (l : List Tree). get_elem? l 0) e))
+step_token (one_leaf j) s rest e = ap token (same_Some (leaf j) s (ap (λ (l : List Tree). slice_get l 0) e))
+step_token (one_group k t f) s rest e = ap token (same_Some (node k t f) s (ap (λ (l : List Tree). slice_get l 0) e))
 
 -- what stands at a position is the first of the list from there on
 
 module _ {A : Type 0} where
-  at_drop : (xs : List A) (i : ℕ) {a : A} {ys : List A} → drop i xs ≡ a ∷ ys → get_elem? xs i ≡ some a
+  at_drop : (xs : List A) (i : ℕ) {a : A} {ys : List A} → drop i xs ≡ a ∷ ys → slice_get xs i ≡ Some a
   at_drop [] zero e = absurd (omega (arith, ap length e))
   at_drop [] (suc i) e = absurd (omega (arith, ap length e))
-  at_drop (x ∷ xs) zero e = ap (λ (l : List A). get_elem? l 0) e
+  at_drop (x ∷ xs) zero e = ap (λ (l : List A). slice_get l 0) e
   at_drop (x ∷ xs) (suc i) e = at_drop xs i e
 
 -- the rule by the token of a lowest node and the mark of its row

@@ -4,9 +4,9 @@ use mathlib.Core.Path.{◌≡◌, refl}
 use mathlib.Core.Bool.{cond}
 use mathlib.Core.List.{List, ◌++◌, map, flat_map, Memᴰ}
 use mathlib.Core.Logic.{◌↔◌, ◌≢◌, ◌⊎◌}
-use mathlib.Core.Option.{some}
+use Rattle.std.specs.Prelude.{Some}
 use lib.Dec.{ltb}
-use lib.ListN.{get_elem?}
+use Rattle.std.specs.Prelude.{slice_get}
 use Rattle.poset.specs.Lists.{occurrences}
 use Rattle.poset.specs.Order.{Arc, Rel, before}
 use Rattle.poset.specs.Tree.{series, Tree, node, Forest, more, trees, leaves, groups, precedes, Spans, Means}
@@ -53,7 +53,7 @@ reasons_turned = Tree.reasons_turned
 -- a chain gives the rule by which of its children comes first: the one at i has the first job, the one at j the second
 pub rule_series
     : (t : Tree) (f : Forest) → ((w : ℕ) → occurrences w (leaves (node series t f)) ≤ 1)
-    → (i j : ℕ) (c d : Tree) → get_elem? (trees (more t f)) i ≡ some c → get_elem? (trees (more t f)) j ≡ some d
+    → (i j : ℕ) (c d : Tree) → slice_get (trees (more t f)) i ≡ Some c → slice_get (trees (more t f)) j ≡ Some d
     → (u v : ℕ) → Memᴰ u (leaves c) → Memᴰ v (leaves d) → rule u v (node series t f) ≡ cond (ltb i j) 2 3
 rule_series = Ruling.rule_series
 

@@ -1,8 +1,8 @@
 -- Where the nodes stand in a record, and what a reason is to be of an order.
 use Rattle.std.specs.Prelude.{ℕ, ◌≡◌, true, false, ◌↔◌, length, drop}
 use mathlib.Core.List.{List, ◌∷◌, ◌++◌, Memᴰ}
-use Rattle.std.proofs.Math.Option.{some}
-use Rattle.std.proofs.Math.ListN.{get_elem?}
+use Rattle.std.specs.Prelude.{Some}
+use Rattle.std.specs.Prelude.{slice_get}
 use Rattle.poset.specs.Order.{Rel, incomparable}
 use Rattle.poset.specs.Tree.{Tree, leaf, node, leaves}
 use Rattle.record.specs.Bits.{bits}
@@ -17,7 +17,7 @@ node_bits hours (node k t f) = 1 ∷ kind_bit k ∷ bits 7 (more_children f)
 
 -- s is the node at position p, both jobs stand under it, and under no node below it
 pub record LowestAt (u v : ℕ) (t : Tree) (p : ℕ) (s : Tree) : Type 0 where
-  pub stands : get_elem? (preorder t) p ≡ some s
+  pub stands : slice_get (preorder t) p ≡ Some s
   pub both : over u v s ≡ true
   pub none_below : (x : Tree) → Memᴰ x (drop 1 (preorder s)) → over u v x ≡ false
 

@@ -1,7 +1,7 @@
 -- The lowest node of a tree over two jobs, and the rule that it gives. (Document 02, A.6: the lowest group over both, as its position in the record
 -- counted in nodes from 0, and the number of jobs under it; its kind and the order of its children give the rule; of one job, its leaf.)
 use Rattle.std.specs.Prelude.{ℕ, suc, ◌+◌, Bool, ◌&&◌, cond, List, [], ◌∷◌, ◌++◌, ltb, length}
-use Rattle.std.proofs.Math.Option.{Option, none, some, map}
+use Rattle.std.specs.Prelude.{Option, None, Some, option_map}
 use Rattle.poset.specs.Lists.{member, only_if}
 use Rattle.poset.specs.Tree.{series, parallel, Tree, leaf, node, Forest, last, more, leaves}
 
@@ -28,14 +28,14 @@ after p s = (p + s.0, s.1)
 
 -- what is found in a first child that is over both, else in one of the others
 unfoldable pub found_in : ℕ → ℕ → Tree → Placed → Option Placed → Option Placed
-found_in u v t here later = cond (over u v t) (some here) (map (after (length (preorder t))) later)
+found_in u v t here later = cond (over u v t) (Some here) (option_map (after (length (preorder t))) later)
 
 -- the lowest node over both, of a tree that is over both: that of the child that is, else the tree itself. The position is counted from the tree's root.
 unfoldable mutual
   pub lowest : ℕ → ℕ → Tree → Placed
   lowest u v (leaf j) = (0, leaf j)
   lowest u v (node k t f) =
-      elim (found_in u v t (lowest u v t) (forest_lowest u v f)) [ some s ↦ after 1 s | none ↦ (0, node k t f) ]
+      elim (found_in u v t (lowest u v t) (forest_lowest u v f)) [ Some s ↦ after 1 s | None ↦ (0, node k t f) ]
 
   pub forest_lowest : ℕ → ℕ → Forest → Option Placed
   forest_lowest u v (last t) = only_if (over u v t) (lowest u v t)

@@ -1,7 +1,7 @@
 -- What the call hands back. (Document 02, A.6, and A.3 for every later request: bytes that are no record give 11; then a job number that is not
 -- below the count gives 14; acceptance has places of 0, since no record is written; with a refusal rule, position and number are 0.)
 use Rattle.std.specs.Prelude.{ℕ, ◌≤◌, ◌≡◌, ◌&&◌, cond, List, [], ◌∷◌, ◌⊎◌, ltb, length}
-use Rattle.std.proofs.Math.Option.{none, some}
+use Rattle.std.specs.Prelude.{None, Some}
 use Rattle.poset.specs.Tree.{Tree, leaves}
 use Rattle.record.specs.Decode.{decode}
 use Rattle.record.specs.Layout.{IsRecord}
@@ -32,8 +32,8 @@ tree_reason t u v =
 unfoldable pub reason_outcome : List ℕ → ℕ → ℕ → ReasonOutcome
 reason_outcome bytes u v =
     elim (decode bytes) [
-      | none ↦ turned_away 11
-      | some x ↦ cond (ltb u x.0 && ltb v x.0) (tree_reason x.1 u v) (turned_away 14)
+      | None ↦ turned_away 11
+      | Some x ↦ cond (ltb u x.0 && ltb v x.0) (tree_reason x.1 u v) (turned_away 14)
     ]
 
 -- what the call hands back, by the outcome

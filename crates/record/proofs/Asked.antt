@@ -2,7 +2,7 @@
 use Prim.Native.Nat.{ℕ}
 use mathlib.Core.Path.{◌≡◌, subst}
 use mathlib.Core.List.{List}
-use mathlib.Core.Option.{none, some}
+use Rattle.std.specs.Prelude.{None, Some}
 use mathlib.Core.Logic.{◌⊎◌, inl, inr, ⊎_elim}
 use Rattle.poset.specs.Tree.{Tree}
 use Rattle.poset.proofs.Laws.{found_or_none}
@@ -13,19 +13,19 @@ use Rattle.record.proofs.Theorems.{decode_record, decode_none, layout_below}
 
 module _ {A : Type 0} (refused : A) (told : ℕ → Tree → List ℕ → A) where
   abbrev pub asked : List ℕ → A
-  asked bytes = elim (decode bytes) [ none ↦ refused | some x ↦ told x.0 x.1 x.2 ]
+  asked bytes = elim (decode bytes) [ None ↦ refused | Some x ↦ told x.0 x.1 x.2 ]
 
-  asked_none : (bytes : List ℕ) → decode bytes ≡ none → asked bytes ≡ refused
+  asked_none : (bytes : List ℕ) → decode bytes ≡ None → asked bytes ≡ refused
   asked_none bytes e = rw (asked, e)
 
-  asked_some : (bytes : List ℕ) (x : ℕ × Tree × List ℕ) → decode bytes ≡ some x → asked bytes ≡ told x.0 x.1 x.2
+  asked_some : (bytes : List ℕ) (x : ℕ × Tree × List ℕ) → decode bytes ≡ Some x → asked bytes ≡ told x.0 x.1 x.2
   asked_some bytes x e = rw (asked, e)
 
   pub asked_either : (bytes : List ℕ) → ((n : ℕ) × (t : Tree) × (hours : List ℕ) × (asked bytes ≡ told n t hours)) ⊎ (asked bytes ≡ refused)
   asked_either bytes =
       ⊎_elim
-      (λ (h : (x : ℕ × Tree × List ℕ) × (decode bytes ≡ some x)). let (x, e) = h in inl (x.0, x.1, x.2, asked_some bytes x e))
-      (λ (h : decode bytes ≡ none). inr (asked_none bytes h))
+      (λ (h : (x : ℕ × Tree × List ℕ) × (decode bytes ≡ Some x)). let (x, e) = h in inl (x.0, x.1, x.2, asked_some bytes x e))
+      (λ (h : decode bytes ≡ None). inr (asked_none bytes h))
       (found_or_none (decode bytes))
 
   pub asked_told : (bytes : List ℕ) (n : ℕ) (t : Tree) (hours : List ℕ) → IsRecord bytes n t hours → asked bytes ≡ told n t hours

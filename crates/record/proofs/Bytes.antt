@@ -2,7 +2,7 @@
 use Prim.Native.Nat.{ℕ, zero, suc, ◌+◌, ◌*◌, ◌%◌, ◌^◌, ◌<◌}
 use mathlib.Core.Path.{◌≡◌, refl, sym, ap, ap₂, subst, ◌∙◌}
 use mathlib.Core.List.{List, [], ◌∷◌, ◌++◌, append_assoc, append-nil}
-use mathlib.Core.Option.{some-injective}
+use Rattle.std.proofs.lemmas.Option.{same_Some}
 use native.Mathlib.Nat.{add-zero, zero-div}
 use native.Mathlib.Omega.{arith}
 use lib.ListN.{length, length-append, replicate, length-replicate}
@@ -29,7 +29,7 @@ bits_of_injective [] [] p q e = refl
 bits_of_injective [] (y ∷ ys) p q e = absurd (omega (arith, ap length e, length_bits_of (y ∷ ys)))
 bits_of_injective (x ∷ xs) [] p q e = absurd (omega (arith, ap length e, length_bits_of (x ∷ xs)))
 bits_of_injective (x ∷ xs) (y ∷ ys) p q e =
-    let both = some-injective _ _ (sym (read_bits_lem 8 x (bits_of xs)) ∙ ap (read_bits 8) e ∙ read_bits_lem 8 y (bits_of ys)) in
+    let both = same_Some _ _ (sym (read_bits_lem 8 x (bits_of xs)) ∙ ap (read_bits 8) e ∙ read_bits_lem 8 y (bits_of ys)) in
     let value : x % 256 ≡ y % 256 = ap (λ (r : ℕ × List ℕ). r.0) both in
     let x_small : x < 256 = below_head p in
     let y_small : y < 256 = below_head q in

@@ -2,7 +2,10 @@
 use Prim.Native.Nat.{ℕ, zero, suc, ◌+◌, ◌*◌, ◌/◌, ◌%◌, ◌^◌, ◌<◌}
 use mathlib.Core.Path.{◌≡◌, refl, sym, ap, ap₂, subst, ◌∙◌}
 use mathlib.Core.List.{List, [], ◌∷◌, ◌++◌}
-use mathlib.Core.Option.{Option, some, bind, bind-eq-some_iff, none-ne-some, some-injective}
+use Rattle.poset.proofs.Laws.{and_then_some}
+use Rattle.std.specs.Prelude.{Option, Some, option_and_then}
+use Rattle.std.proofs.lemmas.Option.{none-some}
+use Rattle.std.proofs.lemmas.Option.{same_Some}
 use native.Mathlib.Nat.{zero-add, suc-add, add_comm, pow-suc, mul_assoc, mul-add-div_right, mod-one, mod-lt, mod-eq_of_lt}
 use native.Mathlib.Numerals.{add-one}
 use native.Mathlib.Omega.{arith}
@@ -67,19 +70,19 @@ bits_cons k b x h l =
 
 -- the number read back
 
-pub read_bits_lem : (k x : ℕ) (rest : List ℕ) → read_bits k (bits k x ++ rest) ≡ some (x % 2 ^ k, rest)
-unfolding bits read_bits bind
+pub read_bits_lem : (k x : ℕ) (rest : List ℕ) → read_bits k (bits k x ++ rest) ≡ Some (x % 2 ^ k, rest)
+unfolding bits read_bits
 read_bits_lem zero x rest = rw (mod-one x)
 read_bits_lem (suc k) x rest =
     let one : 1 + k ≡ suc k = omega arith in
     rw (read_bits_lem k x rest, ← one, mod-pow-add x 1 k)
 
-pub read_back : (k x : ℕ) (rest : List ℕ) → x < 2 ^ k → read_bits k (bits k x ++ rest) ≡ some (x, rest)
-read_back k x rest h = read_bits_lem k x rest ∙ ap (λ (y : ℕ). some (y, rest)) (mod-eq_of_lt h)
+pub read_back : (k x : ℕ) (rest : List ℕ) → x < 2 ^ k → read_bits k (bits k x ++ rest) ≡ Some (x, rest)
+read_back k x rest h = read_bits_lem k x rest ∙ ap (λ (y : ℕ). Some (y, rest)) (mod-eq_of_lt h)
 
 -- what a step gave, where the rest of the steps follows it
-pub after : {A B P : Type 0} (o : Option A) (g : A → Option B) {b : B} → bind o g ≡ some b → ((a : A) → o ≡ some a → g a ≡ some b → P) → P
-after o g e then = let r = (bind-eq-some_iff o g).0 e in then r.0 r.1 r.2
+pub after : {A B P : Type 0} (o : Option A) (g : A → Option B) {b : B} → option_and_then g o ≡ Some b → ((a : A) → o ≡ Some a → g a ≡ Some b → P) → P
+after o g e then = let r = (and_then_some o g).0 e in then r.0 r.1 r.2
 
 -- the bits are those of a number of k bits, and the rest
 pub record Read (k : ℕ) (bs : List ℕ) (x : ℕ) (rest : List ℕ) : Type 0 where
@@ -92,12 +95,12 @@ one_more k b x bs rest h r = record {
   small = omega (arith, digits_lt h r.small);
 }
 
-pub bits_read : (k : ℕ) (bs : List ℕ) {x : ℕ} {rest : List ℕ} → AllBelow 2 bs → read_bits k bs ≡ some (x, rest) → Read k bs x rest
+pub bits_read : (k : ℕ) (bs : List ℕ) {x : ℕ} {rest : List ℕ} → AllBelow 2 bs → read_bits k bs ≡ Some (x, rest) → Read k bs x rest
 unfolding bits read_bits
 bits_read zero bs h e =
-    subst (λ (r : ℕ × List ℕ). Read 0 bs r.0 r.1) (some-injective _ _ e) (record { these = refl; small = omega arith })
-bits_read (suc k) [] {x} {rest} h e = absurd (none-ne-some (x, rest) e)
+    subst (λ (r : ℕ × List ℕ). Read 0 bs r.0 r.1) (same_Some _ _ e) (record { these = refl; small = omega arith })
+bits_read (suc k) [] {x} {rest} h e = absurd (none-some (x, rest) e)
 bits_read (suc k) (b ∷ bs) h e =
     after _ _ e λ y got same.
-    subst (λ (r : ℕ × List ℕ). Read (suc k) (b ∷ bs) r.0 r.1) (some-injective _ _ same)
+    subst (λ (r : ℕ × List ℕ). Read (suc k) (b ∷ bs) r.0 r.1) (same_Some _ _ same)
     (one_more k b y.0 bs y.1 (below_head h) (bits_read k bs (below_tail h) got))

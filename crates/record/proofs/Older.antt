@@ -3,7 +3,7 @@
 use Prim.Native.Nat.{ℕ, ◌+◌, ◌-◌, ◌*◌, ◌≤◌, ◌<◌}
 use mathlib.Core.Path.{◌≡◌, sym, ap, subst, ◌∙◌}
 use mathlib.Core.List.{List, ◌∷◌, ◌++◌}
-use mathlib.Core.Option.{some-injective}
+use Rattle.std.proofs.lemmas.Option.{same_Some}
 use native.Mathlib.Omega.{arith}
 use lib.ListN.{length, length-append}
 use Rattle.poset.specs.Tree.{Tree, leaf, node, Forest, last, more, leaves, forest_leaves, groups, forest_groups, Spans}
@@ -89,7 +89,7 @@ older_none bytes n t was m s hours r =
     let f = subst (Filled (bits 7 (n - 1) ++ older_bits t)) was.spelt (older_filled n t) in
     let g = subst (Filled (bits 7 (m - 1) ++ tree_bits hours s)) r.spelt (layout_filled m hours s) in
     let e = sym (count_read n (older_bits t) was.least was.most f) ∙ count_read m (tree_bits hours s) r.least r.most g in
-    let same : n - 1 ≡ m - 1 = ap (λ (x : ℕ × List ℕ). x.0) (some-injective _ _ e) in
+    let same : n - 1 ≡ m - 1 = ap (λ (x : ℕ × List ℕ). x.0) (same_Some _ _ e) in
     omega (
       arith,
       same,

@@ -4,7 +4,8 @@ use mathlib.Core.Path.{◌≡◌, sym, ap, ap₂, subst, ◌∙◌}
 use mathlib.Core.List.Memᴰ
 use mathlib.Core.List.{List, ◌++◌, map, append_assoc}
 use mathlib.Core.Bool.{Bool, true, ◌&&◌, and-true}
-use mathlib.Core.Option.{none, some, bind, some-injective}
+use Rattle.std.specs.Prelude.{None, Some, option_and_then}
+use Rattle.std.proofs.lemmas.Option.{same_Some}
 use mathlib.Core.Logic.{◌↔◌, ⊎_elim}
 use native.Mathlib.Decide.{dec_lt}
 use native.Mathlib.Omega.{arith}
@@ -37,7 +38,7 @@ layout_below n hours t = (layout_filled n hours t).small
 -- the count that bytes begin with
 pub count_read
     : (n : ℕ) (bs : List ℕ) {bytes : List ℕ} → 0 < n → n ≤ 128 → (f : Filled (bits 7 (n - 1) ++ bs) bytes)
-    → read_bits 7 (bits_of bytes) ≡ some (n - 1, bs ++ replicate f.fill 0)
+    → read_bits 7 (bits_of bytes) ≡ Some (n - 1, bs ++ replicate f.fill 0)
 count_read n bs p l f =
     let rest : List ℕ = bs ++ replicate f.fill 0 in
     ap (read_bits 7) (f.same ∙ append_assoc (bits 7 (n - 1)) bs (replicate f.fill 0)) ∙ read_back 7 (n - 1) rest (omega arith)
@@ -84,10 +85,10 @@ abbrev by_job : ℕ → Tree → List ℕ → List ℕ
 by_job n t hs = map (λ j. beside j (leaves t) hs) (below n)
 
 decode_steps
-    : (bytes after_count left : List ℕ) (m : ℕ) (t : Tree) (hs : List ℕ) → read_bits 7 (bits_of bytes) ≡ some (m, after_count)
-    → read_tree (length after_count) after_count ≡ some ((t, hs), left)
+    : (bytes after_count left : List ℕ) (m : ℕ) (t : Tree) (hs : List ℕ) → read_bits 7 (bits_of bytes) ≡ Some (m, after_count)
+    → read_tree (length after_count) after_count ≡ Some ((t, hs), left)
     → decode bytes ≡ only_if (accepted (suc m) t left) (suc m, t, by_job (suc m) t hs)
-unfolding decode bind
+unfolding decode
 decode_steps bytes after_count left m t hs p q = rw (p, q)
 
 module _ (n : ℕ) (t : Tree) (s : Spans n t) where
@@ -129,7 +130,7 @@ decode_any n hours t p l s each low =
 
 pub decode_layout
     : (n : ℕ) (hours : List ℕ) (t : Tree) → 0 < n → n ≤ 128 → Spans n t → canonical t ≡ true → length hours ≡ n → AllBelow (2 ^ hours_bits) hours
-    → decode (layout n hours t) ≡ some (n, t, hours)
+    → decode (layout n hours t) ≡ Some (n, t, hours)
 unfolding only_if
 decode_layout n hours t p l s c each low = decode_any n hours t p l s each low ∙ ap (λ (b : Bool). only_if b (n, t, hours)) c
 
@@ -169,7 +170,7 @@ found bytes after_count left m t hs b count tree a =
     }
 
 pub layout_decode
-    : (bytes : List ℕ) (n : ℕ) (t : Tree) (hours : List ℕ) → AllBelow 256 bytes → decode bytes ≡ some (n, t, hours) → IsRecord bytes n t hours
+    : (bytes : List ℕ) (n : ℕ) (t : Tree) (hours : List ℕ) → AllBelow 256 bytes → decode bytes ≡ Some (n, t, hours) → IsRecord bytes n t hours
 unfolding decode
 layout_decode bytes n t hours b e =
     after _ _ e λ c got_count then_tree.
@@ -182,16 +183,16 @@ layout_decode bytes n t hours b e =
 -- both
 
 module _ (bytes : List ℕ) where
-  pub record_decodes : (n : ℕ) (t : Tree) (hours : List ℕ) → IsRecord bytes n t hours → decode bytes ≡ some (n, t, hours)
+  pub record_decodes : (n : ℕ) (t : Tree) (hours : List ℕ) → IsRecord bytes n t hours → decode bytes ≡ Some (n, t, hours)
   record_decodes n t hours r =
-      subst (λ (b : List ℕ). decode b ≡ some (n, t, hours)) r.spelt
+      subst (λ (b : List ℕ). decode b ≡ Some (n, t, hours)) r.spelt
       (decode_layout n hours t r.least r.most r.spans r.plain r.each r.small)
 
   pub decode_record
-      : (n : ℕ) (t : Tree) (hours : List ℕ) → AllBelow 256 bytes → (decode bytes ≡ some (n, t, hours)) ↔ IsRecord bytes n t hours
+      : (n : ℕ) (t : Tree) (hours : List ℕ) → AllBelow 256 bytes → (decode bytes ≡ Some (n, t, hours)) ↔ IsRecord bytes n t hours
   decode_record n t hours b = (layout_decode bytes n t hours b, record_decodes n t hours)
 
-  pub decode_none : AllBelow 256 bytes → (decode bytes ≡ none) ↔ ((n : ℕ) (t : Tree) (hours : List ℕ) → IsRecord bytes n t hours → ⊥)
+  pub decode_none : AllBelow 256 bytes → (decode bytes ≡ None) ↔ ((n : ℕ) (t : Tree) (hours : List ℕ) → IsRecord bytes n t hours → ⊥)
   decode_none b = (
     λ e n t hours r. found_clash (record_decodes n t hours r) e,
     λ h.
@@ -203,5 +204,5 @@ module _ (bytes : List ℕ) where
       : (n m : ℕ) (t s : Tree) (hours others : List ℕ) → IsRecord bytes n t hours → IsRecord bytes m s others
       → (n ≡ m) × (t ≡ s) × (hours ≡ others)
   layout_injective n m t s hours others p q =
-      let e = some-injective _ _ (sym (record_decodes n t hours p) ∙ record_decodes m s others q) in
+      let e = same_Some _ _ (sym (record_decodes n t hours p) ∙ record_decodes m s others q) in
       (ap (λ (r : ℕ × Tree × List ℕ). r.0) e, ap (λ (r : ℕ × Tree × List ℕ). r.1) e, ap (λ (r : ℕ × Tree × List ℕ). r.2) e)

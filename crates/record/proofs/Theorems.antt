@@ -3,7 +3,7 @@ use Prim.Native.Nat.{ℕ, ◌+◌, ◌*◌, ◌/◌, ◌^◌, ◌≤◌, ◌<◌
 use mathlib.Core.Path.{◌≡◌}
 use mathlib.Core.List.{List, [], ◌∷◌, map}
 use mathlib.Core.Bool.{true, false}
-use mathlib.Core.Option.{none, some}
+use Rattle.std.specs.Prelude.{None, Some}
 use mathlib.Core.Logic.{◌↔◌}
 use lib.ListN.{length}
 use Rattle.poset.specs.Lists.{only_if}
@@ -22,21 +22,21 @@ use Rattle.record.proofs.Examples.{Example, examples, sample, largest_first, sma
 -- the decoder gives a canonical tree on 1 to 128 jobs and their hours back from the layout
 pub decode_layout
     : (n : ℕ) (hours : List ℕ) (t : Tree) → 0 < n → n ≤ 128 → Spans n t → canonical t ≡ true → length hours ≡ n → AllBelow (2 ^ hours_bits) hours
-    → decode (layout n hours t) ≡ some (n, t, hours)
+    → decode (layout n hours t) ≡ Some (n, t, hours)
 decode_layout = Records.decode_layout
 
 -- bytes that decode are the record of the tree and the hours that they decode to
 pub layout_decode
-    : (bytes : List ℕ) (n : ℕ) (t : Tree) (hours : List ℕ) → AllBelow 256 bytes → decode bytes ≡ some (n, t, hours) → IsRecord bytes n t hours
+    : (bytes : List ℕ) (n : ℕ) (t : Tree) (hours : List ℕ) → AllBelow 256 bytes → decode bytes ≡ Some (n, t, hours) → IsRecord bytes n t hours
 layout_decode = Records.layout_decode
 
 -- so the decoder finds a tree and hours exactly where the bytes are their record, and none exactly where they are no tree's
 pub decode_record
-    : (bytes : List ℕ) (n : ℕ) (t : Tree) (hours : List ℕ) → AllBelow 256 bytes → (decode bytes ≡ some (n, t, hours)) ↔ IsRecord bytes n t hours
+    : (bytes : List ℕ) (n : ℕ) (t : Tree) (hours : List ℕ) → AllBelow 256 bytes → (decode bytes ≡ Some (n, t, hours)) ↔ IsRecord bytes n t hours
 decode_record = Records.decode_record
 
 pub decode_none
-    : (bytes : List ℕ) → AllBelow 256 bytes → (decode bytes ≡ none) ↔ ((n : ℕ) (t : Tree) (hours : List ℕ) → IsRecord bytes n t hours → ⊥)
+    : (bytes : List ℕ) → AllBelow 256 bytes → (decode bytes ≡ None) ↔ ((n : ℕ) (t : Tree) (hours : List ℕ) → IsRecord bytes n t hours → ⊥)
 decode_none = Records.decode_none
 
 -- the layout of any tree decodes exactly where the tree is canonical; so a record of the former plain form is a record exactly where its tree is in this one,

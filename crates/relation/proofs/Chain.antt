@@ -3,7 +3,7 @@ use Prim.Native.Nat.{ℕ, suc, ◌<◌}
 use mathlib.Core.Path.{◌≡◌, sym, ap, fun_ext, ◌∙◌}
 use mathlib.Core.List.{List, Memᴰ}
 use mathlib.Core.Bool.{Bool, true, false}
-use mathlib.Core.Option.{none}
+use Rattle.std.specs.Prelude.{None}
 use mathlib.Core.Logic.{⊎_elim}
 use borrow.Author.Tests.{leb-false}
 use lib.Dec.{leb}
@@ -15,7 +15,7 @@ use Rattle.relation.proofs.Covers.{covers_inside}
 use Rattle.relation.specs.Arcs.{place_from, place, outside}
 
 -- nothing passes a test that has no place
-place_none : (p : Arc → Bool) {a : Arc} (k : ℕ) {arcs : List Arc} → Memᴰ a arcs → place_from k p arcs ≡ none → p a ≡ false
+place_none : (p : Arc → Bool) {a : Arc} (k : ℕ) {arcs : List Arc} → Memᴰ a arcs → place_from k p arcs ≡ None → p a ≡ false
 unfolding place_from
 place_none p k (Memᴰ.head {x = x} {xs = xs} e) h = ap p e ∙ false_unless (p x) (λ t. found_clash {a = k} (rw (place_from, t)) h)
 place_none p k (Memᴰ.tail {x = x} {xs = xs} m) h =
@@ -24,7 +24,7 @@ place_none p k (Memᴰ.tail {x = x} {xs = xs} m) h =
     (λ (t : p x ≡ false). place_none p (suc k) m (rw (place_from, t) at h))
     (decided (p x))
 
-pub outside_none : (n : ℕ) (arcs : List Arc) → place (outside n) arcs ≡ none → Within n arcs
+pub outside_none : (n : ℕ) (arcs : List Arc) → place (outside n) arcs ≡ None → Within n arcs
 unfolding place outside
 outside_none n arcs h a m =
     let e = place_none (outside n) 0 m h in
@@ -44,7 +44,7 @@ module _ (n : ℕ) (arcs : List Arc) (t : List (List ℕ)) (table : (u v : ℕ) 
   closure_before c h = fun_ext λ u. fun_ext λ v. h u v ∙ ap (λ r. via r n u v) table_arcs
 
   pub closure_strict
-      : (c : List (List ℕ)) → ((u v : ℕ) → holds c u v ≡ via (holds t) n u v) → first_on_cycle_of n (holds c) ≡ none → Strict n (holds c)
+      : (c : List (List ℕ)) → ((u v : ℕ) → holds c u v ≡ via (holds t) n u v) → first_on_cycle_of n (holds c) ≡ None → Strict n (holds c)
   closure_strict c h f =
       let e = closure_before c h in
       rw e (before_is_strict n arcs (rw e at f))

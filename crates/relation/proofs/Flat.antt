@@ -6,7 +6,7 @@ use native.Mathlib.Omega.{arith}
 use mathlib.Core.Path.{◌≡◌, refl, sym, ap, ap₂, subst, ◌∙◌}
 use mathlib.Core.List.{List, [], ◌∷◌, Memᴰ}
 use mathlib.Core.Bool.{Bool, true, false, ◌&&◌, ◌||◌}
-use mathlib.Core.Option.{none, some}
+use Rattle.std.specs.Prelude.{None, Some}
 use mathlib.Core.Logic.{⊎_elim}
 use lib.Dec.{eqb}
 use lib.ListN.{length, get_or, drop, set, replicate, length-drop, get_or-replicate, get_or-eq_default}
@@ -52,11 +52,11 @@ module _ (p : Arc → Bool) (xs : List ℕ) where
   searched_none = record { within = omega arith; left = refl }
 
   module _ (i : ℕ) (s : Searched i) where
-    pub searched_end : length xs ≤ i + 1 → none ≡ place p (pairs xs)
+    pub searched_end : length xs ≤ i + 1 → None ≡ place p (pairs xs)
     unfolding place_from
     searched_end l = sym (s.left ∙ ap (place_from (i / 2) p) (pairs_end xs i l))
 
-    pub searched_hit : i + 1 < length xs → p (get_or xs i 0, get_or xs (i + 1) 0) ≡ true → some (i / 2) ≡ place p (pairs xs)
+    pub searched_hit : i + 1 < length xs → p (get_or xs i 0, get_or xs (i + 1) 0) ≡ true → Some (i / 2) ≡ place p (pairs xs)
     unfolding place_from
     searched_hit l h = sym (s.left ∙ rw (pairs_step xs i l, place_from, h))
 
@@ -70,39 +70,39 @@ module _ (p : Arc → Bool) (xs : List ℕ) where
 
 module _ (p : Arc → Bool) (xs : List ℕ) where
   -- a look at all arcs that has come to i
-  pub record Noticed (some : Bool) (i : ℕ) : Type 0 where
+  pub record Noticed (Some : Bool) (i : ℕ) : Type 0 where
     pub within : i ≤ length xs
-    pub left : (some || exists p (pairs (drop i xs))) ≡ exists p (pairs xs)
+    pub left : (Some || exists p (pairs (drop i xs))) ≡ exists p (pairs xs)
 
   pub noticed_none : Noticed false 0
   noticed_none = record { within = omega arith; left = refl }
 
-  module _ (some : Bool) (i : ℕ) (s : Noticed some i) where
-    pub noticed_end : length xs ≤ i + 1 → some ≡ exists p (pairs xs)
+  module _ (Some : Bool) (i : ℕ) (s : Noticed Some i) where
+    pub noticed_end : length xs ≤ i + 1 → Some ≡ exists p (pairs xs)
     unfolding exists
-    noticed_end l = sym (or-false some) ∙ ap (λ arcs. some || exists p arcs) (sym (pairs_end xs i l)) ∙ s.left
+    noticed_end l = sym (or-false Some) ∙ ap (λ arcs. Some || exists p arcs) (sym (pairs_end xs i l)) ∙ s.left
 
     module _ (l : i + 1 < length xs) where
       pub noticed_hit : p (get_or xs i 0, get_or xs (i + 1) 0) ≡ true → Noticed true (i + 2)
       noticed_hit h =
           record {
             within = omega arith;
-            left = sym (or_right some true refl) ∙ ap (λ b. some || b) (sym (ap (exists p) (pairs_step xs i l) ∙ any_yes p _ _ h)) ∙ s.left;
+            left = sym (or_right Some true refl) ∙ ap (λ b. Some || b) (sym (ap (exists p) (pairs_step xs i l) ∙ any_yes p _ _ h)) ∙ s.left;
           }
 
-      pub noticed_next : p (get_or xs i 0, get_or xs (i + 1) 0) ≡ false → Noticed some (i + 2)
+      pub noticed_next : p (get_or xs i 0, get_or xs (i + 1) 0) ≡ false → Noticed Some (i + 2)
       noticed_next h =
           record {
             within = omega arith;
-            left = ap (λ b. some || b) (sym (ap (exists p) (pairs_step xs i l) ∙ any_not p _ _ h)) ∙ s.left;
+            left = ap (λ b. Some || b) (sym (ap (exists p) (pairs_step xs i l) ∙ any_not p _ _ h)) ∙ s.left;
           }
 
 -- where none does there is no first one
-pub nowhere : (p : Arc → Bool) (arcs : List Arc) → exists p arcs ≡ false → none ≡ place p arcs
+pub nowhere : (p : Arc → Bool) (arcs : List Arc) → exists p arcs ≡ false → None ≡ place p arcs
 unfolding place place_from
 nowhere p arcs h = from 0 arcs h
   where
-    from : (k : ℕ) (arcs : List Arc) → exists p arcs ≡ false → none ≡ place_from k p arcs
+    from : (k : ℕ) (arcs : List Arc) → exists p arcs ≡ false → None ≡ place_from k p arcs
     from k [] h = refl
     from k (a ∷ arcs) h =
         let e = any_miss p (a ∷ arcs) h (Memᴰ.head refl) in

@@ -6,7 +6,7 @@ use native.Mathlib.Omega.{arith}
 use mathlib.Core.Path.{◌≡◌, refl, sym, ap, ◌∙◌}
 use mathlib.Core.List.{List, [], ◌∷◌, ◌++◌, map, Memᴰ}
 use mathlib.Core.Bool.{Bool, true, false, ◌&&◌, ◌||◌, not}
-use mathlib.Core.Option.{Option, none, some}
+use Rattle.std.specs.Prelude.{Option, None, Some}
 use mathlib.Core.Logic.{⊎_elim}
 use lib.Dec.{ltb}
 use lib.ListN.{length}
@@ -69,8 +69,8 @@ module _ {ℓ} {A : Type ℓ} (p : A → Bool) where
         (decided (p x))
 
   -- a search that finds nothing where the test fails
-  module _ {κ} {B : Type κ} (f : A → Option B) where
-    pub first_keep : (xs : List A) → ((x : A) → Memᴰ x xs → p x ≡ false → f x ≡ none) → first f (keep p xs) ≡ first f xs
+  module _ {B : Type 0} (f : A → Option B) where
+    pub first_keep : (xs : List A) → ((x : A) → Memᴰ x xs → p x ≡ false → f x ≡ None) → first f (keep p xs) ≡ first f xs
     unfolding keep
     first_keep [] h = refl
     first_keep (x ∷ xs) h =
@@ -79,17 +79,17 @@ module _ {ℓ} {A : Type ℓ} (p : A → Bool) where
         rw (keep_yes p x xs e)
         (⊎_elim
         (λ s. first_here f x (keep p xs) s.1 ∙ sym (first_here f x xs s.1))
-        (λ (o : f x ≡ none). first_later f x (keep p xs) o ∙ first_keep xs rest ∙ sym (first_later f x xs o))
+        (λ (o : f x ≡ None). first_later f x (keep p xs) o ∙ first_keep xs rest ∙ sym (first_later f x xs o))
         (found_or_none (f x))))
         (λ (e : p x ≡ false).
         rw (keep_not p x xs e) (first_keep xs rest ∙ sym (first_later f x xs (h x (Memᴰ.head refl) e))))
         (decided (p x))
       where
-        rest : (y : A) → Memᴰ y xs → p y ≡ false → f y ≡ none
+        rest : (y : A) → Memᴰ y xs → p y ≡ false → f y ≡ None
         rest y m = h y (Memᴰ.tail m)
 
 -- two searches that agree on a list
-pub first_agree {ℓ κ} : {A : Type ℓ} {B : Type κ} (f g : A → Option B) (xs : List A) → ((x : A) → Memᴰ x xs → f x ≡ g x) → first f xs ≡ first g xs
+pub first_agree {ℓ} : {A : Type ℓ} {B : Type 0} (f g : A → Option B) (xs : List A) → ((x : A) → Memᴰ x xs → f x ≡ g x) → first f xs ≡ first g xs
 unfolding first
 first_agree f g [] h = refl
 first_agree f g (x ∷ xs) h =
@@ -100,8 +100,8 @@ first_agree f g (x ∷ xs) h =
     (found_or_none (f x))
 
 -- a search over two lists, one after the other
-module _ {ℓ κ} {A : Type ℓ} {B : Type κ} (f : A → Option B) where
-  pub first_append_here : (xs ys : List A) {b : B} → first f xs ≡ some b → first f (xs ++ ys) ≡ some b
+module _ {ℓ} {A : Type ℓ} {B : Type 0} (f : A → Option B) where
+  pub first_append_here : (xs ys : List A) {b : B} → first f xs ≡ Some b → first f (xs ++ ys) ≡ Some b
   unfolding first
   first_append_here [] ys h = absurd (found_clash h refl)
   first_append_here (x ∷ xs) ys h =
@@ -110,20 +110,20 @@ module _ {ℓ κ} {A : Type ℓ} {B : Type κ} (f : A → Option B) where
       (λ e. first_later f x (xs ++ ys) e ∙ first_append_here xs ys (sym (first_later f x xs e) ∙ h))
       (found_or_none (f x))
 
-  pub first_append_later : (xs ys : List A) → first f xs ≡ none → first f (xs ++ ys) ≡ first f ys
+  pub first_append_later : (xs ys : List A) → first f xs ≡ None → first f (xs ++ ys) ≡ first f ys
   first_append_later [] ys h = refl
   first_append_later (x ∷ xs) ys h =
       let e = first_none f (Memᴰ.head {xs = xs} refl) h in
       first_later f x (xs ++ ys) e ∙ first_append_later xs ys (sym (first_later f x xs e) ∙ h)
 
 -- a search for the first element that passes a test leads another that finds nothing where the test fails
-module _ {ℓ κ} {A : Type ℓ} {B : Type κ} (p : A → Bool) (g : A → Option B) where
-  pub led_none : (xs : List A) → ((x : A) → Memᴰ x xs → p x ≡ false → g x ≡ none) → first (λ x. only_if (p x) x) xs ≡ none → first g xs ≡ none
+module _ {A B : Type 0} (p : A → Bool) (g : A → Option B) where
+  pub led_none : (xs : List A) → ((x : A) → Memᴰ x xs → p x ≡ false → g x ≡ None) → first (λ x. only_if (p x) x) xs ≡ None → first g xs ≡ None
   led_none xs h e = none_first g xs (λ x m. h x m ((only_if_none (p x) x).0 (first_none _ m e)))
 
   pub led_some
-      : (xs : List A) → ((x : A) → Memᴰ x xs → p x ≡ false → g x ≡ none) → {c : A} → first (λ x. only_if (p x) x) xs ≡ some c
-      → Memᴰ c xs × (p c ≡ true) × ((b : B) → g c ≡ some b → first g xs ≡ some b)
+      : (xs : List A) → ((x : A) → Memᴰ x xs → p x ≡ false → g x ≡ None) → {c : A} → first (λ x. only_if (p x) x) xs ≡ Some c
+      → Memᴰ c xs × (p c ≡ true) × ((b : B) → g c ≡ Some b → first g xs ≡ Some b)
   unfolding first only_if
   led_some [] h e = absurd (found_clash e refl)
   led_some (x ∷ xs) h {c} e =
@@ -191,20 +191,20 @@ unfolding up_from
 range_end k n l = let e : n - k ≡ 0 = omega arith in rw e
 
 -- a search over the numbers below n that has come to k and found nothing
-module _ {ℓ} {B : Type ℓ} (f : ℕ → Option B) (n : ℕ) where
-  pub record Looked (k : ℕ) : Type ℓ where
+module _ {B : Type 0} (f : ℕ → Option B) (n : ℕ) where
+  pub record Looked (k : ℕ) : Type 0 where
     pub within : k ≤ n
-    pub nothing : (i : ℕ) → i < k → f i ≡ none
+    pub nothing : (i : ℕ) → i < k → f i ≡ None
 
   pub looked_none : Looked 0
   looked_none = record { within = zero-le; nothing = λ i l. absurd (omega arith) }
 
   module _ (k : ℕ) (s : Looked k) where
-    pub looked_end : n ≤ k → none ≡ first f (below n)
+    pub looked_end : n ≤ k → None ≡ first f (below n)
     looked_end l = sym ((none_below f n).1 (λ i m. s.nothing i (lt_of_lt_of_le m l)))
 
     module _ (l : k < n) where
-      pub looked_hit : {b : B} → f k ≡ some b → some b ≡ first f (below n)
+      pub looked_hit : {b : B} → f k ≡ Some b → Some b ≡ first f (below n)
       looked_hit h =
           let e : n ≡ k + (n - k) = omega arith in
           sym (ap (λ (m : ℕ). first f (below m)) e
@@ -213,7 +213,7 @@ module _ {ℓ} {B : Type ℓ} (f : ℕ → Option B) (n : ℕ) where
           ∙ ap (first f) (range_step k n l)
           ∙ first_here f k _ h)
 
-      pub looked_next : f k ≡ none → Looked (k + 1)
+      pub looked_next : f k ≡ None → Looked (k + 1)
       looked_next h =
           record {
             within = omega arith;

@@ -4,7 +4,7 @@ use native.Mathlib.Nat.{lt_of_lt_of_le}
 use mathlib.Core.Path.{◌≡◌, refl, sym, ap, ap₂, fun_ext, ◌∙◌}
 use mathlib.Core.List.{List, Memᴰ}
 use mathlib.Core.Bool.{Bool, true, false, ◌&&◌, ◌||◌, not}
-use mathlib.Core.Option.{Option, none, some}
+use Rattle.std.specs.Prelude.{Option, None, Some}
 use mathlib.Core.Logic.{⊎_elim}
 use lib.Dec.{eqb, ltb}
 use borrow.Author.Tests.{lt-ltb, ltb-true}
@@ -18,37 +18,37 @@ use Rattle.relation.proofs.Lists.{and_comm, not_or, first_keep, first_agree, fir
 use Rattle.relation.proofs.Sets.{members_head, Members-step, members_end, members_below, members_mem, members_low, members_halves}
 
 -- a search over a list that has the members of a set before it
-module _ {ℓ} {B : Type ℓ} (f : ℕ → Option B) (js : List ℕ) where
-  abbrev pub Sought : List ℕ → Type ℓ
+module _ {B : Type 0} (f : ℕ → Option B) (js : List ℕ) where
+  abbrev pub Sought : List ℕ → Type 0
   Sought rest = first f js ≡ first f (members rest)
 
   module _ (rest : List ℕ) (s : Sought rest) where
-    pub sought_end : exists (has rest) (below 128) ≡ false → none ≡ first f js
+    pub sought_end : exists (has rest) (below 128) ≡ false → None ≡ first f js
     unfolding first
     sought_end h = sym (s ∙ ap (first f) (members_end rest h))
 
     module _ (z : ℕ) (least : Least rest z) where
-      pub sought_hit : {b : B} → f z ≡ some b → some b ≡ first f js
+      pub sought_hit : {b : B} → f z ≡ Some b → Some b ≡ first f js
       sought_hit h = sym (s ∙ ap (first f) (members_head rest z least) ∙ first_here f z _ h)
 
       pub sought_next
-          : (others : List ℕ) → ((v : ℕ) → has others v ≡ (has rest v && exists (has rest) (below v))) → f z ≡ none → Sought others
+          : (others : List ℕ) → ((v : ℕ) → has others v ≡ (has rest v && exists (has rest) (below v))) → f z ≡ None → Sought others
       sought_next others without h = s ∙ ap (first f) (Members-step rest others z least without) ∙ first_later f z _ h
 
 -- a search over a set, one half after the other
-module _ {ℓ} {B : Type ℓ} (f : ℕ → Option B) (s low : List ℕ) (l : (v : ℕ) → has low v ≡ (has s v && ltb v 64)) where
-  pub by_words_here : {b : B} → first f (members low) ≡ some b → some b ≡ first f (members s)
+module _ {B : Type 0} (f : ℕ → Option B) (s low : List ℕ) (l : (v : ℕ) → has low v ≡ (has s v && ltb v 64)) where
+  pub by_words_here : {b : B} → first f (members low) ≡ Some b → Some b ≡ first f (members s)
   by_words_here e = sym (ap (first f) (members_low s low l) ∙ first_append_here f (members low) _ e)
 
   pub by_words_later
-      : (high : List ℕ) → ((v : ℕ) → has high v ≡ (has s v && not (ltb v 64))) → first f (members low) ≡ none
+      : (high : List ℕ) → ((v : ℕ) → has high v ≡ (has s v && not (ltb v 64))) → first f (members low) ≡ None
       → first f (members high) ≡ first f (members s)
   by_words_later high h e = sym (ap (first f) (members_halves s low l high h) ∙ first_append_later f (members low) (members high) e)
 
 -- among the jobs below n, the set has all at which there is something
-pub sought_all {ℓ}
-    : {B : Type ℓ} (f : ℕ → Option B) (n : ℕ) → n ≤ 128 → (s : List ℕ) → ((x : ℕ) → has s x ≡ true → x < n)
-    → ((x : ℕ) → x < n → has s x ≡ false → f x ≡ none) → Sought f (below n) s
+pub sought_all
+    : {B : Type 0} (f : ℕ → Option B) (n : ℕ) → n ≤ 128 → (s : List ℕ) → ((x : ℕ) → has s x ≡ true → x < n)
+    → ((x : ℕ) → x < n → has s x ≡ false → f x ≡ None) → Sought f (below n) s
 sought_all f n l s within miss =
     sym (ap (first f) (sym (members_below n s l within)) ∙ first_keep (has s) f (below n) (λ x m. miss x (mem_below n m)))
 
@@ -88,11 +88,11 @@ module _ (free : Rel) (ds : List ℕ) where
     met : exists (has s) (below 128) ≡ meets c
     met = ap (λ p. exists p (below 128)) (fun_ext h)
 
-    pub meeting_hit : exists (has s) (below 128) ≡ true → meeting c ≡ some c
+    pub meeting_hit : exists (has s) (below 128) ≡ true → meeting c ≡ Some c
     unfolding only_if
     meeting_hit e = rw (sym met ∙ e)
 
-    pub meeting_miss : exists (has s) (below 128) ≡ false → meeting c ≡ none
+    pub meeting_miss : exists (has s) (below 128) ≡ false → meeting c ≡ None
     meeting_miss e = (only_if_none _ _).1 (sym met ∙ e)
 
 -- the tests of an N, at b, c and d
@@ -119,11 +119,11 @@ module _ (r : Rel) (a b : ℕ) where
 
 -- what the search finds with a and b
 module _ (n : ℕ) (r : Rel) (a b : ℕ) where
-  apart_none : incomparable r a b ≡ false → at_b n r a b ≡ none
+  apart_none : incomparable r a b ≡ false → at_b n r a b ≡ None
   apart_none h =
       (none_below (at_c n r a b) n).1 λ c _. (none_below (at_d n r a b c) n).1 λ d _. (only_if_none _ _).1 (n_apart r a b c d h)
 
-  above_none : (c : ℕ) → (r a c && r b c) ≡ false → at_c n r a b c ≡ none
+  above_none : (c : ℕ) → (r a c && r b c) ≡ false → at_c n r a b c ≡ None
   above_none c h = (none_below (at_d n r a b c) n).1 λ d _. (only_if_none _ _).1 (n_above r a b c d h)
 
 -- the jobs that make an N with a and b: c among cs, which both are before, and d among ds, which are after b and incomparable to a
@@ -156,57 +156,57 @@ module _ (n : ℕ) (r : Rel) (a b : ℕ) (free : Rel) (cs ds : List ℕ) (p : Si
         (sym (p.frees c d ∙ apart_below n r c d lc l))
         ∙ ap (λ x. x && free c d) (sym (p.beside d))
 
-    pub fourth_miss : meets free ds c ≡ false → at_c n r a b c ≡ none
+    pub fourth_miss : meets free ds c ≡ false → at_c n r a b c ≡ None
     fourth_miss e =
         (none_below (at_d n r a b c) n).1 λ d l.
         (only_if_none _ _).1 (fourth d l ∙ any_miss (λ x. has ds x && free c x) (below 128) e (below_mem (lt_of_lt_of_le l p.small)))
 
     -- the search for d is over the set of the jobs that make an N
-    pub fourth_first : (s : List ℕ) → ((d : ℕ) → has s d ≡ (has ds d && free c d)) → at_c n r a b c ≡ first (λ d. some (a, b, c, d)) (members s)
+    pub fourth_first : (s : List ℕ) → ((d : ℕ) → has s d ≡ (has ds d && free c d)) → at_c n r a b c ≡ first (λ d. Some (a, b, c, d)) (members s)
     unfolding only_if
     fourth_first s h = sought_all (at_d n r a b c) n p.small s within miss ∙ agree
       where
         within : (d : ℕ) → has s d ≡ true → d < n
         within d e = (p.inside b d (and_left _ _ (sym (p.beside d) ∙ and_left _ _ (sym (h d) ∙ e)))).1
 
-        miss : (d : ℕ) → d < n → has s d ≡ false → at_d n r a b c d ≡ none
+        miss : (d : ℕ) → d < n → has s d ≡ false → at_d n r a b c d ≡ None
         miss d l e = (only_if_none _ _).1 (fourth d l ∙ sym (h d) ∙ e)
 
-        agree : first (at_d n r a b c) (members s) ≡ first (λ d. some (a, b, c, d)) (members s)
+        agree : first (at_d n r a b c) (members s) ≡ first (λ d. Some (a, b, c, d)) (members s)
         agree =
-            first_agree (at_d n r a b c) (λ d. some (a, b, c, d)) (members s) λ d m.
+            first_agree (at_d n r a b c) (λ d. Some (a, b, c, d)) (members s) λ d m.
             let e = (members_mem s m).1 in rw (fourth d (within d e) ∙ sym (h d) ∙ e)
 
     -- and finds something where there is such a job
-    fourth_some : at_c n r a b c ≡ none → meets free ds c ≡ false
+    fourth_some : at_c n r a b c ≡ None → meets free ds c ≡ false
     fourth_some e =
         any_none (λ d. has ds d && free c d) (below 128) λ d _.
         false_unless _ λ t.
         let l = (p.inside b d (and_left _ _ (sym (p.beside d) ∙ and_left _ _ t))).1 in
         clash t (sym (fourth d l) ∙ (only_if_none _ _).0 ((none_below (at_d n r a b c) n).0 e d l))
 
-  misses : (c : ℕ) → Memᴰ c (members cs) → meets free ds c ≡ false → at_c n r a b c ≡ none
+  misses : (c : ℕ) → Memᴰ c (members cs) → meets free ds c ≡ false → at_c n r a b c ≡ None
   misses c m = fourth_miss c (members_mem cs m).1
 
   -- no job is after b and incomparable to a
-  pub no_fourth : exists (has ds) (below 128) ≡ false → none ≡ at_b n r a b
+  pub no_fourth : exists (has ds) (below 128) ≡ false → None ≡ at_b n r a b
   no_fourth e =
       sym (sought_c ∙ none_first (at_c n r a b) (members cs)
       λ c m. misses c m (any_none (λ d. has ds d && free c d) (below 128) λ d k. ap (λ x. x && free c d) (any_miss (has ds) (below 128) e k)))
 
   -- the search for c
   module _ (found : Option ℕ) (h : found ≡ first (meeting free ds) (members cs)) where
-    pub no_third : found ≡ none → none ≡ at_b n r a b
+    pub no_third : found ≡ None → None ≡ at_b n r a b
     no_third e = sym (sought_c ∙ led_none (meets free ds) (at_c n r a b) (members cs) misses (sym h ∙ e))
 
-    module _ (c : ℕ) (e : found ≡ some c) where
-      led : Memᴰ c (members cs) × (meets free ds c ≡ true) × ((q : Four) → at_c n r a b c ≡ some q → first (at_c n r a b) (members cs) ≡ some q)
+    module _ (c : ℕ) (e : found ≡ Some c) where
+      led : Memᴰ c (members cs) × (meets free ds c ≡ true) × ((q : Four) → at_c n r a b c ≡ Some q → first (at_c n r a b) (members cs) ≡ Some q)
       led = led_some (meets free ds) (at_c n r a b) (members cs) misses (sym h ∙ e)
 
       pub third_small : c < 128
       third_small = (members_mem cs led.0).0
 
-      pub third_found : (s : List ℕ) → ((d : ℕ) → has s d ≡ (has ds d && free c d)) → first (λ d. some (a, b, c, d)) (members s) ≡ at_b n r a b
+      pub third_found : (s : List ℕ) → ((d : ℕ) → has s d ≡ (has ds d && free c d)) → first (λ d. Some (a, b, c, d)) (members s) ≡ at_b n r a b
       third_found s t =
           let on = (members_mem cs led.0).1 in
           sym (fourth_first c on s t)
@@ -233,7 +233,7 @@ module _ (n : ℕ) (r : Rel) (a : ℕ) (bs : List ℕ) where
 
   pub beside_next
       : Beside n r a bs → (b : ℕ) → Least bs b → (others : List ℕ) → ((v : ℕ) → has others v ≡ (has bs v && exists (has bs) (below v)))
-      → at_b n r a b ≡ none → Beside n r a others
+      → at_b n r a b ≡ None → Beside n r a others
   beside_next p b least others without h =
       record {
         sought = sought_next (at_b n r a) (below n) bs p.sought b least others without h;

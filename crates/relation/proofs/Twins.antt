@@ -3,7 +3,7 @@ use Prim.Native.Nat.{ℕ, ◌≤◌, ◌<◌}
 use native.Mathlib.Nat.{lt_of_lt_of_le}
 use mathlib.Core.Path.{◌≡◌, sym, ap, ◌∙◌}
 use mathlib.Core.Bool.{true, false}
-use mathlib.Core.Option.{none}
+use Rattle.std.specs.Prelude.{None}
 use Rattle.poset.specs.Order.{Rel, is_n}
 use Rattle.poset.proofs.Laws.{clash, false_unless, only_if_none}
 use Rattle.poset.proofs.Forbidden.{n_crossing, crossing_n}
@@ -12,15 +12,15 @@ use Rattle.relation.specs.Table.{Twins}
 
 module _ (n : ℕ) (r : Rel) (u : ℕ) where
   -- no N begins with u
-  abbrev None : Type 0
-  None = (b c d : ℕ) → b < n → c < n → d < n → is_n r u b c d ≡ false
+  abbrev Begins_none : Type 0
+  Begins_none = (b c d : ℕ) → b < n → c < n → d < n → is_n r u b c d ≡ false
 
-  pub none_at_lem : at_a n r u ≡ none → None
+  pub none_at_lem : at_a n r u ≡ None → Begins_none
   none_at_lem e b c d lb lc ld =
       (only_if_none _ _).0
       ((none_below (at_d n r u b c) n).0 ((none_below (at_c n r u b) n).0 ((none_below (at_b n r u) n).0 e b lb) c lc) d ld)
 
-  at_none : None → at_a n r u ≡ none
+  at_none : Begins_none → at_a n r u ≡ None
   at_none e =
       (none_below (at_b n r u) n).1 λ b lb.
       (none_below (at_c n r u b) n).1 λ c lc.
@@ -57,5 +57,5 @@ module _ (n : ℕ) (r : Rel) (u v : ℕ) (small : n ≤ 128) (t : Twins r u v) w
           };
         })
 
-  pub twin_none : None n r u → none ≡ at_a n r v
+  pub twin_none : Begins_none n r u → None ≡ at_a n r v
   twin_none e = sym (at_none n r v λ b c d lb lc ld. false_unless _ λ h. clash (twin_n b c d lb lc ld h) (e b c d lb lc ld))

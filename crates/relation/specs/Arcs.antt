@@ -1,6 +1,6 @@
 -- Arcs in a flat list of numbers, and what a search finds among them.
 use Rattle.std.specs.Prelude.{ℕ, suc, List, [], ◌∷◌, Bool, true, false, ◌||◌, eqb, leb}
-use Rattle.std.proofs.Math.Option.{Option, none, some}
+use Rattle.std.specs.Prelude.{Option, None, Some}
 use Rattle.poset.specs.Order.{Arc, Four}
 use Rattle.relation.specs.declared.Found.{Found}
 use Rattle.relation.specs.declared.Found.TheVariants as found_variants
@@ -15,8 +15,8 @@ pairs (u ∷ v ∷ xs) = (u, v) ∷ pairs xs
 
 -- the place of the first element that passes a test, where the list starts at place k
 unfoldable pub place_from {ℓ} : {A : Type ℓ} → ℕ → (A → Bool) → List A → Option ℕ
-place_from k p [] = none
-place_from k p (x ∷ xs) = elim (p x) [ true ↦ some k | false ↦ place_from (suc k) p xs ]
+place_from k p [] = None
+place_from k p (x ∷ xs) = elim (p x) [ true ↦ Some k | false ↦ place_from (suc k) p xs ]
 
 unfoldable pub place {ℓ} : {A : Type ℓ} → (A → Bool) → List A → Option ℕ
 place = place_from 0
@@ -30,9 +30,9 @@ unfoldable pub loop : Arc → Bool
 loop a = eqb a.0 a.1
 
 abbrev pub found : Found → Option ℕ
-found (found_variants.At i) = some i
-found found_variants.Nothing = none
+found (found_variants.At i) = Some i
+found found_variants.Nothing = None
 
 abbrev pub found_four : FoundFour → Option Four
-found_four (four_variants.At a b c d) = some (a, b, c, d)
-found_four four_variants.Nothing = none
+found_four (four_variants.At a b c d) = Some (a, b, c, d)
+found_four four_variants.Nothing = None

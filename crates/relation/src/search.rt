@@ -1,6 +1,6 @@
 //! The first N of an order: jobs a, b, c, d with a before c, b before c and d, and a b, c d, a d incomparable.
 ghost use Rattle.std.specs.Prelude.{ℕ, ◌-◌, ◌<◌, ◌≤◌, ◌≡◌, true, false, ◌&&◌};
-ghost use Rattle.std.proofs.Math.Option.{some};
+ghost use Rattle.std.specs.Prelude.{Some};
 ghost use Rattle.poset.specs.Lists.{exists, first, below, only_if};
 ghost use Rattle.poset.specs.Order.{is_n, first_n_of};
 ghost use Rattle.relation.specs.Table.{has, holds, members, apart, Twins, Inside};
@@ -53,7 +53,7 @@ fn first_by_words(t: &[[u64; 2]; 128], cs: [u64; 2], ds: [u64; 2]) -> Found
 
 // The jobs a, b, c and the smallest of a set, if there is one.
 fn with_smallest(a: usize, b: usize, c: usize, s: [u64; 2]) -> FoundFour
-    ensures { found_four result ≡ first (λ d. some (a, b, c, d)) (members s) }
+    ensures { found_four result ≡ first (λ d. Some (a, b, c, d)) (members s) }
 {
     if !set::inhabited(s) {
         return FoundFour::Nothing;

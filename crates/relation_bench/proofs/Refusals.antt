@@ -4,7 +4,7 @@ use native.Mathlib.Omega.{arith}
 use mathlib.Core.Path.{◌≡◌, refl, ap, fun_ext, ◌∙◌}
 use mathlib.Core.List.{List, [], flat_map}
 use mathlib.Core.Bool.{true, false}
-use mathlib.Core.Option.{Option, none, some}
+use Rattle.std.specs.Prelude.{Option, None, Some}
 use lib.Dec.{leb}
 use lib.ListN.{length}
 use borrow.Author.Tests.{leb-true, le-leb, lt-leb}
@@ -18,10 +18,10 @@ use Rattle.relation.proofs.Chain.{outside_none, table_arcs, table_inside}
 use Rattle.closure.specs.Joins.{pass_joins, join_count}
 use Rattle.relation_bench.specs.Steps.{nothing, fits, acyclic, joins_of, pass_joins_of, reduced_arcs, packed, packed_n}
 
-nothing_none : (o : Option ℕ) → nothing o ≡ true → o ≡ none
+nothing_none : (o : Option ℕ) → nothing o ≡ true → o ≡ None
 unfolding nothing
-nothing_none none h = refl
-nothing_none (some i) h = absurd (clash h refl)
+nothing_none None h = refl
+nothing_none (Some i) h = absurd (clash h refl)
 
 -- nothing is written
 pub no_arcs : (area : List ℕ) {arcs : List Arc} → arcs ≡ [] → (0 ≡ length arcs) × (area ≡ overlay (arc_bytes arcs) area)

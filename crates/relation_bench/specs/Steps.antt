@@ -1,14 +1,14 @@
 -- The steps from arcs to their closure, their reduction and their first N, for arcs that a caller in C hands in.
 use Rattle.std.specs.Prelude.{ℕ, ◌+◌, ◌*◌, ◌%◌, List, [], Bool, true, false, ◌&&◌, leb, length}
-use Rattle.std.proofs.Math.Option.{Option, none, some}
+use Rattle.std.specs.Prelude.{Option, None, Some}
 use Rattle.poset.specs.Order.{Arc, Rel, Four, arc, before, first_on_cycle_of, reduction, first_n_of}
 use Rattle.relation.specs.Arcs.{place, outside}
 use Rattle.closure.specs.Joins.{pass_joins, join_count}
 
 -- a search has found nothing
 unfoldable pub nothing : Option ℕ → Bool
-nothing none = true
-nothing (some i) = false
+nothing None = true
+nothing (Some i) = false
 
 -- at most 128 jobs, and the arcs name them alone
 unfoldable pub fits : ℕ → List Arc → Bool
@@ -35,9 +35,9 @@ reduced_arcs room n arcs =
 
 -- four jobs, a byte each from the lowest, or 2^32
 unfoldable pub packed : Option Four → ℕ
-packed none = 4294967296
-packed (some q) = q.0 % 256 + 256 * (q.1 % 256) + 65536 * (q.2 % 256) + 16777216 * (q.3 % 256)
+packed None = 4294967296
+packed (Some q) = q.0 % 256 + 256 * (q.1 % 256) + 65536 * (q.2 % 256) + 16777216 * (q.3 % 256)
 
 -- the first N of arcs that fit, as a number
 unfoldable pub packed_n : ℕ → List Arc → ℕ
-packed_n n arcs = packed (elim (fits n arcs) [ true ↦ first_n_of n (before n arcs) | false ↦ none ])
+packed_n n arcs = packed (elim (fits n arcs) [ true ↦ first_n_of n (before n arcs) | false ↦ None ])

@@ -1,7 +1,7 @@
 -- Bytes that lead from a state to another: one run after another, as a scan, and in a copy.
 use Rattle.std.proofs.Common.{◌≡◌, ℕ, suc, ◌+◌, ◌<◌, ◌≤◌, ◌⊎◌, List, length, get_or, drop, sym}
 use Rattle.std.proofs.Common.{refl, ap, ◌∙◌, subst, ap₂, inl, inr, ⊎_elim, add-one, arith, drop_of_length-le, drop-cons}
-use mathlib.Core.Option.{none, some}
+use Rattle.std.specs.Prelude.{None, Some}
 use native.Mathlib.Decide.{dec_lt}
 use lib.ListN.{get_or-eq_default}
 use Rattle.sheet.specs.Scan.{State, broken, hours_ahead, arcs_ahead, field_of, faulty, step, whole, scan_from}
@@ -14,7 +14,7 @@ is_there s at z = elim (dec_lt at (length s)) [ yes l ↦ l | no l ↦ absurd (o
 
 module _ {s : List ℕ} where
   -- one byte, by its value
-  pub leads_byte : {t u : State} {at : ℕ} (b : ℕ) → get_or s at 0 ≡ b → 0 < b → step t b ≡ some u → Leads s t at u (at + 1)
+  pub leads_byte : {t u : State} {at : ℕ} (b : ℕ) → get_or s at 0 ≡ b → 0 < b → step t b ≡ Some u → Leads s t at u (at + 1)
   leads_byte {t} {u} {at} b e z goes = byte {at = at} (omega arith) (ap (step t) e ∙ goes) stay
 
   pub leads_join : {t u v : State} {a b c : ℕ} → Leads s t a u b → Leads s u b v c → Leads s t a v c
@@ -42,18 +42,18 @@ module _ {s : List ℕ} where
 
   unfoldable pub breaks_join
       : {t u : State} {a b place : ℕ} → Leads s t a u b → hours_ahead (field_of u) ≡ hours_ahead (field_of t)
-      → arcs_ahead (field_of u) ≡ arcs_ahead (field_of t) → whole u ≡ none → Breaks s u b place → Breaks s t a place
+      → arcs_ahead (field_of u) ≡ arcs_ahead (field_of t) → whole u ≡ None → Breaks s u b place → Breaks s t a place
   breaks_join l d e w k = record {
     reached = k.reached;
     leads = leads_join l k.leads;
     same_hours = k.same_hours ∙ d;
     same_arcs = k.same_arcs ∙ e;
     stuck = k.stuck;
-    unfinished = λ _. ⊎_elim k.unfinished (λ h. subst (λ (x : State). whole x ≡ none) h.1 w) (leads_on k.leads);
+    unfinished = λ _. ⊎_elim k.unfinished (λ h. subst (λ (x : State). whole x ≡ None) h.1 w) (leads_on k.leads);
   }
 
   pub breaks_scan
-      : (start : ℕ) {t : State} {a place : ℕ} → Breaks s t a place → (whole t ≡ none) ⊎ (a < length s) → a ≤ length s
+      : (start : ℕ) {t : State} {a place : ℕ} → Breaks s t a place → (whole t ≡ None) ⊎ (a < length s) → a ≤ length s
       → scan_from t (start + a) (drop a s) ≡ broken (start + place) (hours_ahead (field_of t)) (arcs_ahead (field_of t))
   breaks_scan start {t} {a} {place} k w h =
       leads_scan start k.leads ∙ fault ∙ ap₂ (broken (start + place)) k.same_hours k.same_arcs
@@ -67,7 +67,7 @@ module _ {s : List ℕ} where
                 (scan_short k.reached (start + place)
                 (⊎_elim k.unfinished
                 (λ h.
-                subst (λ (x : State). whole x ≡ none) h.1 (⊎_elim (λ e. e) (λ (m : a < length s). absurd (omega (arith, h.0))) w))
+                subst (λ (x : State). whole x ≡ None) h.1 (⊎_elim (λ e. e) (λ (m : a < length s). absurd (omega (arith, h.0))) w))
                 (leads_on k.leads)))
           ]
 

@@ -3,7 +3,7 @@ use Prim.Native.Nat.{ℕ, zero, suc, ◌+◌, ◌-◌, ◌≤◌, ◌<◌}
 use mathlib.Core.Path.{◌≡◌, refl, sym, ap, ap₂, subst, ◌∙◌}
 use mathlib.Core.List.{List, [], ◌∷◌, ◌++◌, map}
 use mathlib.Core.Bool.{Bool, true, false}
-use mathlib.Core.Option.{none}
+use Rattle.std.specs.Prelude.{None}
 use mathlib.Core.Logic.{⊎_elim}
 use native.Mathlib.Numerals.{add-one}
 use native.Mathlib.Omega.{arith}
@@ -267,12 +267,12 @@ pub shape_done : {n : ℕ} {under tied free : Rel} → Tables n under tied free 
 unfolding entries
 shape_done {n = n} {under = under} t {w = w} {forward = forward} {reverse = reverse} {p = p} x e =
     let r = transpose under in
-    let none : entries_of w p.height ≡ [] = ap (entries_of w) e in
+    let None : entries_of w p.height ≡ [] = ap (entries_of w) e in
     let (made, tells, spelt, ahead, back, number) =
     todo_none n r (take p.count w.fields) (take p.placed forward) reverse p.groups
-    (todo_same n r refl refl refl refl (ap pend (sym none)) x.todo) in
+    (todo_same n r refl refl refl refl (ap pend (sym None)) x.todo) in
     let means = tells_means n r made tells in
-    let all : p.placed ≡ n = omega (arith, x.whole, ap (λ es. jobs_of (sets_of es)) none) in
+    let all : p.placed ≡ n = omega (arith, x.whole, ap (λ es. jobs_of (sets_of es)) None) in
     let (ec, ef) = whole_list w.fields (tokens made) p.count 256 (omega (arith, x.count_is, x.groups_few)) (sym spelt) x.fields_blank in
     let (l, eo) = whole_list forward (leaves made) p.placed 128 (omega (arith, x.forward_size)) (sym ahead) x.forward_blank in
     let (m, er) = whole_list reverse (reversed made) n 128 (omega (arith, x.reverse_size)) back x.reverse_blank in
@@ -281,7 +281,7 @@ shape_done {n = n} {under = under} t {w = w} {forward = forward} {reverse = reve
     ∙ ap shape (sym (tree_of_means n r made means.0 means.1))
 
 -- an N: no tree
-pub no_tree : (n : ℕ) (r : Rel) → Strict n r → HasN n r → tree_of n r ≡ none
+pub no_tree : (n : ℕ) (r : Rel) → Strict n r → HasN n r → tree_of n r ≡ None
 no_tree n r strict h =
     ⊎_elim
     (λ (t, e). absurd (tree_has_no_n n r (t, (tree_of_sound n r t strict e).0) h))

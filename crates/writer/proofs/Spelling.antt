@@ -3,8 +3,7 @@ use Prim.Native.Nat.{ℕ, ◌+◌, ◌*◌, ◌-◌, ◌≤◌}
 use mathlib.Core.Path.{◌≡◌, refl, sym, ap, ◌∙◌}
 use mathlib.Core.List.{List, ◌++◌, flat_map}
 use mathlib.Core.Bool.{Bool, true, false}
-use mathlib.Core.Option.{Option, none, some}
-use Rattle.std.specs.Prelude.{Some, None}
+use Rattle.std.specs.Prelude.{Option, None, Some}
 use native.Mathlib.Omega.{arith}
 use lib.ListN.{length, take, replicate, length-append, length-replicate}
 use lib.Seq.{take_at}
@@ -31,32 +30,32 @@ pub record Spells (hours : List ℕ) (t : Tree) (fields : List ℕ) : Type 0 whe
   pub these : flat_map (field_bits hours) fields ≡ tree_bits hours t
 
 -- a tree or none, as a flag tells
-told : (P : Option Tree → Type 0) (ok : Bool) → (P none → ok ≡ false) → ((t : Tree) → P (some t) → ok ≡ true) → (o : Option Tree) → P o
-    → (ok ≡ true → (t : Tree) × (o ≡ some t) × P (some t)) × (ok ≡ false → o ≡ none)
-told P ok low high none h = ((λ e. absurd (clash e (low h))), λ e. refl)
-told P ok low high (some t) h = ((λ e. (t, refl, h)), λ e. absurd (clash (high t h) e))
+told : (P : Option Tree → Type 0) (ok : Bool) → (P None → ok ≡ false) → ((t : Tree) → P (Some t) → ok ≡ true) → (o : Option Tree) → P o
+    → (ok ≡ true → (t : Tree) × (o ≡ Some t) × P (Some t)) × (ok ≡ false → o ≡ None)
+told P ok low high None h = ((λ e. absurd (clash e (low h))), λ e. refl)
+told P ok low high (Some t) h = ((λ e. (t, refl, h)), λ e. absurd (clash (high t h) e))
 
 pub shape_told : (o : Option Tree) (r : Shape) → r ≡ shape o
-    → (r.ok ≡ true → (t : Tree) × (o ≡ some t) × (r ≡ shape (some t))) × (r.ok ≡ false → o ≡ none)
+    → (r.ok ≡ true → (t : Tree) × (o ≡ Some t) × (r ≡ shape (Some t))) × (r.ok ≡ false → o ≡ None)
 shape_told o r = told (λ o. r ≡ shape o) r.ok (ap (λ (r : Shape). r.ok)) (λ t. ap (λ (r : Shape). r.ok)) o
 
 -- a record is that of a tree
 pub written_some : (n : ℕ) (hours : List ℕ) (o : Option Tree) (w : Written) → Some w ≡ written n hours o
-    → (t : Tree) × (o ≡ some t) × (w ≡ record_of n hours t)
-written_some n hours none w e = absurd (cc)
-written_some n hours (some t) w e = (t, refl, cc)
+    → (t : Tree) × (o ≡ Some t) × (w ≡ record_of n hours t)
+written_some n hours None w e = absurd (cc)
+written_some n hours (Some t) w e = (t, refl, cc)
 
 -- and where there is none, there is no tree
-pub written_none : (n : ℕ) (hours : List ℕ) (o : Option Tree) → None ≡ written n hours o → o ≡ none
-written_none n hours none e = refl
-written_none n hours (some t) e = absurd (cc)
+pub written_none : (n : ℕ) (hours : List ℕ) (o : Option Tree) → None ≡ written n hours o → o ≡ None
+written_none n hours None e = refl
+written_none n hours (Some t) e = absurd (cc)
 
-module _ (n : ℕ) (few : n ≤ 128) (r : Rel) (strict : Strict n r) (t : Tree) (e : tree_of n r ≡ some t) where
+module _ (n : ℕ) (few : n ≤ 128) (r : Rel) (strict : Strict n r) (t : Tree) (e : tree_of n r ≡ Some t) where
   spans : Spans n t
   spans = (tree_of_sound n r t strict e).0.spans
 
   -- the fields of a shape
-  module _ (s : Shape) (is : s ≡ shape (some t)) where
+  module _ (s : Shape) (is : s ≡ shape (Some t)) where
     count_is : s.count ≡ length (tokens t)
     count_is = ap (λ (s : Shape). s.count) is
 

@@ -3,7 +3,7 @@ use Prim.Native.Nat.{ℕ, ◌+◌, ◌≤◌, ◌<◌}
 use mathlib.Core.Path.{◌≡◌, refl, sym, ap, subst₂, ◌∙◌}
 use mathlib.Core.List.{List}
 use mathlib.Core.Bool.{Bool, true, false}
-use mathlib.Core.Option.{none}
+use Rattle.std.specs.Prelude.{None}
 use native.Mathlib.Decide.{dec_lt}
 use native.Mathlib.Omega.{arith}
 use lib.Dec.{ltb}
@@ -118,7 +118,7 @@ module _ {n : ℕ} {under tied free : Rel} (t : Tables n under tied free) where
 
       -- there is no tree
       pub turn_none : {ok : Bool} → Stepped tied free under w forward reverse p w' forward' reverse' q ok → ok ≡ false
-          → tree_of n (transpose under) ≡ none
+          → tree_of n (transpose under) ≡ None
       turn_none (put l) e = absurd (clash refl e)
       turn_none (opens a two g ahead back) e = absurd (clash refl e)
       turn_none (stays a one more) e =

@@ -1,7 +1,7 @@
 -- What is found of a tree that is to be written: its fields, which are its tokens, its groups and its sequences.
 -- An inner contract: who reads the promise of write_record need not believe it, but specs/Written.antt alone.
 use Rattle.std.specs.Prelude.{ℕ, List, [], true, false, length, replicate}
-use Rattle.std.proofs.Math.Option.{Option, none, some}
+use Rattle.std.specs.Prelude.{Option, None, Some}
 use Rattle.poset.specs.Areas.{padded}
 use Rattle.poset.specs.Tree.{Tree, leaves, reversed, groups}
 use Rattle.record.specs.Tokens.{tokens, listing}
@@ -19,8 +19,8 @@ shaped p fields forward reverse =
 
 -- a tree or none
 abbrev pub shape : Option Tree → Shape
-shape none = no_shape
-shape (some t) =
+shape None = no_shape
+shape (Some t) =
     record {
       ok = true;
       fields = listing (tokens t);

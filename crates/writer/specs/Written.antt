@@ -1,6 +1,5 @@
 -- What is written of an order.
-use Rattle.std.specs.Prelude.{ℕ, ◌-◌, List, ◌++◌, Option, Some, None, length, replicate}
-use Rattle.std.proofs.Math.Option.{Option as Maybe, none, some}
+use Rattle.std.specs.Prelude.{ℕ, ◌-◌, List, ◌++◌, Option, option_map, length, replicate}
 use Rattle.poset.specs.Areas.{padded}
 use Rattle.poset.specs.Tree.{Tree, leaves, reversed, groups}
 use Rattle.record.specs.Layout.{layout, most_record_bytes}
@@ -22,6 +21,5 @@ record_of n hours t =
     }
 
 -- and no record, where there is no tree
-abbrev pub written : ℕ → List ℕ → Maybe Tree → Option Written
-written n hours none = None
-written n hours (some t) = Some (record_of n hours t)
+abbrev pub written : ℕ → List ℕ → Option Tree → Option Written
+written n hours = option_map (record_of n hours)

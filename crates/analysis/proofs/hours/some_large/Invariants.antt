@@ -2,7 +2,7 @@
 use Prim.Native.Nat.{ℕ, ◌-◌}
 use mathlib.Core.Path.{◌≡◌}
 use mathlib.Core.Bool.{true, false}
-use mathlib.Core.Option.{some}
+use Rattle.std.specs.Prelude.{Some}
 use lib.Dec.{ltb}
 use lib.ListN.{length}
 use Rattle.relation.specs.Arcs.{place}
@@ -12,7 +12,7 @@ use Rattle.analysis.proofs.hours.some_large.Given as goal
 
 abbrev pub invariant-loop-i : goal.invariant-loop-i
 invariant-loop-i l =
-    (l.some ≡ false → Passed (ltb most_hours) l.hours l.i) × (l.some ≡ true → (j : ℕ) × (some j ≡ place (ltb most_hours) l.hours))
+    (l.some ≡ false → Passed (ltb most_hours) l.hours l.i) × (l.some ≡ true → (j : ℕ) × (Some j ≡ place (ltb most_hours) l.hours))
 
 abbrev pub decreases-loop-i : goal.decreases-loop-i
 decreases-loop-i l = length l.hours - l.i

@@ -1,6 +1,6 @@
 -- `order::of_arcs` meets its contract: the closure's first job before itself decides between 7 and the order taken apart.
 use mathlib.Core.Path.{◌≡◌, refl, sym, ap, ◌∙◌}
-use mathlib.Core.Option.{none}
+use Rattle.std.specs.Prelude.{None}
 use native.Mathlib.Omega.{arith}
 use Rattle.poset.specs.Order.{first_on_cycle_of}
 use Rattle.relation.specs.Table.{holds}
@@ -12,7 +12,7 @@ use Rattle.analysis.proofs.order.of_arcs.Goals as goal
 use Rattle.analysis.proofs.order.of_arcs.Goals.{In-Nothing}
 
 -- no job is before itself in the closure
-none_here : (c : goal.In-Nothing) → first_on_cycle_of c.args.n (holds c.transitive_closure-after.result) ≡ none
+none_here : (c : goal.In-Nothing) → first_on_cycle_of c.args.n (holds c.transitive_closure-after.result) ≡ None
 none_here c = sym c.first_on_cycle-circle.ensures ∙ ap found c.in-Nothing.is
 
 pub table_of-requires : goal.table_of-requires

@@ -1,6 +1,6 @@
 -- `order::take_apart` meets its contract: the record decides between 8 and the rest, and the rooms between 9, 10 and acceptance.
 use mathlib.Core.Path.{◌≡◌, sym, ◌∙◌}
-use mathlib.Core.Option.{some}
+use Rattle.std.specs.Prelude.{Some}
 use native.Mathlib.Omega.{arith}
 use Rattle.poset.specs.Tree.{Tree}
 use Rattle.poset.specs.Decompose.{tree_of}
@@ -16,7 +16,7 @@ use Rattle.analysis.proofs.order.take_apart.Goals as goal
 use Rattle.analysis.proofs.order.take_apart.Goals.{In-Some, After-reduced-reduced}
 
 -- a tree means the order: what is written is the record of the hours
-told : (c : In-Some) → (t : Tree) × (tree_of c.args.n (holds c.args.after) ≡ some t)
+told : (c : In-Some) → (t : Tree) × (tree_of c.args.n (holds c.args.after) ≡ Some t)
     × (c.in-Some.written ≡ record_of c.args.n c.args.hours.now t)
 told c =
     let a = c.args in

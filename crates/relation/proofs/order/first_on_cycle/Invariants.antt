@@ -1,7 +1,7 @@
 -- `relation::order::first_on_cycle` meets its contract.
 use Prim.Native.Nat.{ℕ, ◌-◌}
 use mathlib.Core.List.{List}
-use mathlib.Core.Option.{Option}
+use Rattle.std.specs.Prelude.{Option}
 use Rattle.poset.specs.Lists.{only_if}
 use Rattle.relation.specs.Table.{holds}
 use Rattle.relation.proofs.Lists.{Looked}

@@ -1,7 +1,7 @@
 -- `writing::write_record`: the record spells the tree, or there is neither.
 use borrow.Author.Tests.{not-true, not-false}
 use mathlib.Core.Path.{◌≡◌, sym, ap}
-use mathlib.Core.Option.{Option, some}
+use Rattle.std.specs.Prelude.{Option, Some}
 use Prim.Native.Nat.{◌≤◌}
 use lib.ListN.{length}
 use lib.Seq.{length-take-le}
@@ -31,7 +31,7 @@ module _ (c : goal.Else-not-shape) where
   abbrev tree : Option Tree
   tree = tree_of c.args.n (holds c.args.after)
 
-  told : (t : Tree) × (tree ≡ some t) × (shape_of ≡ shape (some t))
+  told : (t : Tree) × (tree ≡ Some t) × (shape_of ≡ shape (Some t))
   told = (shape_told tree shape_of c.shape_of-shape.ensures).0 (not-false c.shape_of-shape.result.ok c.if-not-shape.false)
 
   fits : shape_of.count ≤ 256
