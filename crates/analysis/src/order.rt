@@ -9,11 +9,12 @@ ghost use Rattle.analysis.specs.Outcome.{decomposed, ordered};
 ghost use Rattle.analysis.specs.Result.{Gives, rooms, crossed_by};
 
 use crate::{Analysis, Verdict, areas, hours, refused};
+use relation::set::JobSet;
 use relation::{Found, FoundFour, arcs, order, reduction, search};
 use writer::writing;
 
 // An order that no tree means: the first N.
-fn crossed(after: [[u64; 2]; 128], under: &[[u64; 2]; 128], n: usize) -> Analysis
+fn crossed(after: [JobSet; 128], under: &[JobSet; 128], n: usize) -> Analysis
     requires n_bound { n ≤ 128 }
     requires inside { Inside n after }
     requires by_index { (u v : ℕ) → holds under.now u v ≡ holds after v u }
@@ -28,7 +29,7 @@ fn crossed(after: [[u64; 2]; 128], under: &[[u64; 2]; 128], n: usize) -> Analysi
 
 // A strict order: its record and its reduced orders, each written once both are known to fit.
 fn take_apart(
-    after: [[u64; 2]; 128],
+    after: [JobSet; 128],
     n: usize,
     hours: &[u16],
     bytes: &mut [u8],

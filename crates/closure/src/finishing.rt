@@ -6,29 +6,30 @@ ghost use Rattle.relation.specs.Table.{has, holds, members, Inside};
 ghost use Rattle.closure.specs.Joins.{join_count};
 ghost use Rattle.closure.specs.Rows.{Rows, Cyclic};
 
-use relation::{reduction, set};
+use relation::reduction;
+use relation::set::JobSet;
 
 // The step that joins one row into another: it adds 1 to the count.
-fn join(row: [u64; 2], other: [u64; 2], joins: &mut usize) -> [u64; 2]
+fn join(row: JobSet, other: JobSet, joins: &mut usize) -> JobSet
     requires { joins.old + 1 < 2 ^ 64 }
     ensures by_index { (v : ℕ) → has result v ≡ (has row v || has other v) }
     ensures joins_after { joins.new ≡ joins.old + 1 }
 {
     *joins += 1;
-    set::union(row, other)
+    row.union(other)
 }
 
 // The rows of some jobs joined to a row, each join counted.
-fn join_each(rows: &[[u64; 2]; 128], row: [u64; 2], jobs: [u64; 2], joins: &mut usize) -> [u64; 2]
+fn join_each(rows: &[JobSet; 128], row: JobSet, jobs: JobSet, joins: &mut usize) -> JobSet
     requires { joins.old + length (members jobs) < 2 ^ 64 }
     ensures by_index { (v : ℕ) → has result v ≡ (has row v || exists (λ w. has jobs w && holds rows.now w v) (below 128)) }
     ensures joins_after { joins.new ≡ joins.old + length (members jobs) }
 {
     let mut whole = row;
     let mut rest = jobs;
-    while set::inhabited(rest) {
-        let v = set::smallest(rest);
-        let others = set::without_smallest(rest);
+    while rest.inhabited() {
+        let v = rest.smallest();
+        let others = rest.without_smallest();
         let more = join(whole, rows[v], joins);
         whole = more;
         rest = others;
@@ -37,23 +38,23 @@ fn join_each(rows: &[[u64; 2]; 128], row: [u64; 2], jobs: [u64; 2], joins: &mut 
 }
 
 // A row with the rows of its jobs joined to it: first of those below 64, then of the others.
-fn joined(rows: &[[u64; 2]; 128], row: [u64; 2], joins: &mut usize) -> [u64; 2]
+fn joined(rows: &[JobSet; 128], row: JobSet, joins: &mut usize) -> JobSet
     requires { joins.old + length (members row) < 2 ^ 64 }
     ensures by_index { (v : ℕ) → has result v ≡ (has row v || exists (λ w. has row w && holds rows.now w v) (below 128)) }
     ensures joins_after { joins.new ≡ joins.old + length (members row) }
 {
-    let part = join_each(rows, row, set::low(row), joins);
-    join_each(rows, part, set::high(row), joins)
+    let part = join_each(rows, row, row.low(), joins);
+    join_each(rows, part, row.high(), joins)
 }
 
 // The row of a job that is left, made from the rows of all that its arcs lead to, which are finished. The jobs that are left then: all but this one.
 fn finish(
-    t: &[[u64; 2]; 128],
-    made: &mut [[u64; 2]; 128],
-    left: [u64; 2],
+    t: &[JobSet; 128],
+    made: &mut [JobSet; 128],
+    left: JobSet,
     at: usize,
     joins: &mut usize,
-) -> [u64; 2]
+) -> JobSet
     requires made_len { length made.old ≡ 128 }
     requires at_value { has left at ≡ true }
     requires by_index { (v : ℕ) → holds t.now at v ≡ true → has left v ≡ false }
@@ -66,15 +67,15 @@ fn finish(
     let row = t[at];
     let whole = joined(made, row, joins);
     made[at] = whole;
-    set::difference(left, set::only(at))
+    left.difference(JobSet::only(at))
 }
 
 // The rows of a job that is left and of all that it leads to, if no cycle is met. A job waits on a stack until the rows of all that its arcs
 // lead to are finished; an arc to itself or to a job on the stack is part of a cycle. Whether none is met; `left` then has the jobs still left.
 fn follow(
-    t: &[[u64; 2]; 128],
-    made: &mut [[u64; 2]; 128],
-    left: &mut [u64; 2],
+    t: &[JobSet; 128],
+    made: &mut [JobSet; 128],
+    left: &mut JobSet,
     root: usize,
     stack: &mut [u8; 128],
     joins: &mut usize,
@@ -90,20 +91,20 @@ fn follow(
     ensures left_in_bounds { result ≡ true → length (members left.new) < length (members left.old) }
 {
     let mut jobs = *left;
-    let mut met = [0u64; 2];
+    let mut met = JobSet::EMPTY;
     let mut at = root;
     let mut depth = 0;
     loop {
-        let next = set::intersection(t[at], jobs);
-        if set::inhabited(next) {
-            let more = set::union(met, set::only(at));
-            if set::inhabited(set::intersection(next, more)) {
+        let next = t[at].intersection(jobs);
+        if next.inhabited() {
+            let more = met.union(JobSet::only(at));
+            if next.intersection(more).inhabited() {
                 return false;
             }
             met = more;
             stack[depth] = at as u8;
             depth += 1;
-            at = set::largest(next);
+            at = next.largest();
         } else {
             let others = finish(t, made, jobs, at, joins);
             jobs = others;
@@ -119,12 +120,7 @@ fn follow(
 
 // All rows into a table of empty ones, and the joins that they take, if there is no cycle; a job with no arc has its row already. Whether
 // there is no cycle.
-pub fn finish_all(
-    t: &[[u64; 2]; 128],
-    made: &mut [[u64; 2]; 128],
-    n: usize,
-    joins: &mut usize,
-) -> bool
+pub fn finish_all(t: &[JobSet; 128], made: &mut [JobSet; 128], n: usize, joins: &mut usize) -> bool
     requires n_bound { (n ≤ 128) × (length made.old ≡ 128) }
     requires inside { Inside n t.now }
     requires by_index { (u v : ℕ) → holds made.old u v ≡ false }
@@ -135,8 +131,8 @@ pub fn finish_all(
     let mut stack = [0u8; 128];
     let mut left = reduction::domain(t, n);
     *joins = 0;
-    while set::inhabited(left) {
-        let root = set::largest(left);
+    while left.inhabited() {
+        let root = left.largest();
         if !follow(t, made, &mut left, root, &mut stack, joins) {
             return false;
         }

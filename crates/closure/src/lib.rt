@@ -10,16 +10,17 @@ ghost use Rattle.poset.specs.Order.{via};
 ghost use Rattle.relation.specs.Table.{holds, Inside};
 ghost use Rattle.closure.specs.Joins.{join_count};
 
+use relation::set::JobSet;
+
 // The transitive closure among the jobs below n, and how many joins of a row into another made it. Without a cycle it is made from the last jobs
 // towards the first, a join for each pair of the table; with one by Warshall's passes, whose joins alone are counted then.
-pub fn transitive_closure(t: [[u64; 2]; 128], n: usize, joins: &mut usize) -> [[u64; 2]; 128]
+pub fn transitive_closure(t: [JobSet; 128], n: usize, joins: &mut usize) -> [JobSet; 128]
     requires n_bound { n ≤ 128 }
     requires inside { Inside n t }
     ensures by_index { (u v : ℕ) → holds result u v ≡ via (holds t) n u v }
     ensures joins_after { joins.new ≡ join_count n (holds t) }
 {
-    let none = [0u64; 2];
-    let mut made = [none; 128];
+    let mut made = [JobSet::EMPTY; 128];
     if finishing::finish_all(&t, &mut made, n, joins) {
         return made;
     }

@@ -6,10 +6,10 @@ ghost use Rattle.relation.specs.Table.{bit, has, holds, Inside};
 ghost use Rattle.closure.specs.Joins.{joins_at, pass_joins};
 ghost use Rattle.closure.specs.Columns.{columns, Joins};
 
-use relation::set;
+use relation::set::{self, JobSet};
 
 // The words of the rows below n into two columns.
-fn split(t: &[[u64; 2]; 128], low: &mut [u64; 128], high: &mut [u64; 128], n: usize)
+fn split(t: &[JobSet; 128], low: &mut [u64; 128], high: &mut [u64; 128], n: usize)
     requires n_bound { (n ≤ 128) × (length low.old ≡ 128) × (length high.old ≡ 128) }
     requires inside { Inside n t.now }
     requires by_index { (u : ℕ) → (get_or low.old u 0 ≡ 0) × (get_or high.old u 0 ≡ 0) }
@@ -17,22 +17,21 @@ fn split(t: &[[u64; 2]; 128], low: &mut [u64; 128], high: &mut [u64; 128], n: us
     ensures by_index_2 { (u v : ℕ) → columns low.new high.new u v ≡ holds t.now u v }
 {
     for i in 0..n {
-        let row = t[i];
-        low[i] = row[0];
-        high[i] = row[1];
+        let [first, second] = t[i].words();
+        low[i] = first;
+        high[i] = second;
     }
 }
 
 // The table of the rows below n whose words two columns have.
-fn table(low: &[u64; 128], high: &[u64; 128], n: usize) -> [[u64; 2]; 128]
+fn table(low: &[u64; 128], high: &[u64; 128], n: usize) -> [JobSet; 128]
     requires n_bound { n ≤ 128 }
     requires by_index { (u v : ℕ) → columns low.now high.now u v ≡ true → u < n }
     ensures { (u v : ℕ) → holds result u v ≡ columns low.now high.now u v }
 {
-    let none = [0u64; 2];
-    let mut r = [none; 128];
+    let mut r = [JobSet::EMPTY; 128];
     for i in 0..n {
-        r[i] = [low[i], high[i]];
+        r[i] = JobSet::from_words([low[i], high[i]]);
     }
     r
 }
@@ -77,7 +76,7 @@ fn pass(low: &mut [u64; 128], high: &mut [u64; 128], k: usize, n: usize) -> usiz
 {
     let a = low[k];
     let b = high[k];
-    if !set::inhabited([a, b]) {
+    if !JobSet::from_words([a, b]).inhabited() {
         return 0;
     }
     if k < 64 {
@@ -88,13 +87,13 @@ fn pass(low: &mut [u64; 128], high: &mut [u64; 128], k: usize, n: usize) -> usiz
 }
 
 // The range of a relation: the jobs that some job is before.
-fn range(t: &[[u64; 2]; 128], n: usize) -> [u64; 2]
+fn range(t: &[JobSet; 128], n: usize) -> JobSet
     requires { n ≤ 128 }
     ensures { (v : ℕ) → has result v ≡ exists (λ u. holds t.now u v) (below n) }
 {
-    let mut jobs = [0u64; 2];
+    let mut jobs = JobSet::EMPTY;
     for u in 0..n {
-        let more = set::union(jobs, t[u]);
+        let more = jobs.union(t[u]);
         jobs = more;
     }
     jobs
@@ -102,7 +101,7 @@ fn range(t: &[[u64; 2]; 128], n: usize) -> [u64; 2]
 
 // The transitive closure among the jobs below n, and how many joins it takes. Within, a column of words lies together, for several rows at
 // a time. A pass through a job that no job is before would change nothing.
-pub fn passed(t: &[[u64; 2]; 128], n: usize, joins: &mut usize) -> [[u64; 2]; 128]
+pub fn passed(t: &[JobSet; 128], n: usize, joins: &mut usize) -> [JobSet; 128]
     requires n_bound { n ≤ 128 }
     requires inside { Inside n t.now }
     ensures by_index { (u v : ℕ) → holds result u v ≡ via (holds t.now) n u v }
@@ -114,7 +113,7 @@ pub fn passed(t: &[[u64; 2]; 128], n: usize, joins: &mut usize) -> [[u64; 2]; 12
     let reached = range(t, n);
     let mut count = 0;
     for k in 0..n {
-        if set::contains(reached, k) {
+        if reached.contains(k) {
             let more = pass(&mut low, &mut high, k, n);
             count += more;
         }

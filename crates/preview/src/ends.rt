@@ -6,7 +6,8 @@ ghost use Rattle.poset.specs.Order.{Within, arc};
 ghost use Rattle.relation.specs.Table.{holds};
 ghost use Rattle.relation.specs.Arcs.{pairs, place, outside, loop, found};
 
-use relation::{Found, arcs, set};
+use relation::set::JobSet;
+use relation::{Found, arcs};
 
 // The first of two places, the second in a list that has so many arcs ahead of it.
 fn first_of(ahead: Found, behind: Found, count: usize) -> Found
@@ -45,7 +46,7 @@ pub fn first_loop(list: &[u16], last: &[u16]) -> Found
 }
 
 // The table of the arcs. The list at the end is short: its arcs are put in one by one.
-pub fn table_of(list: &[u16], last: &[u16]) -> [[u64; 2]; 128]
+pub fn table_of(list: &[u16], last: &[u16]) -> [JobSet; 128]
     requires { Within 128 (pairs list.now ++ pairs last.now) }
     ensures { (u v : ℕ) → holds result u v ≡ arc (pairs list.now ++ pairs last.now) u v }
 {
@@ -53,7 +54,7 @@ pub fn table_of(list: &[u16], last: &[u16]) -> [[u64; 2]; 128]
     for k in 0..last.len() / 2 {
         let u = last[2 * k] as usize;
         let v = last[2 * k + 1] as usize;
-        let row = set::union(t[u], set::only(v));
+        let row = t[u].union(JobSet::only(v));
         t[u] = row;
     }
     t

@@ -10,11 +10,12 @@ ghost use Rattle.analysis.specs.Result.{answer_of, crossed_by};
 
 use crate::ends;
 use analysis::{Verdict, hours};
+use relation::set::JobSet;
 use relation::{Found, FoundFour, order, reduction, search};
 use writer::writing;
 
 // An order that no tree means: the first N.
-fn crossed(after: [[u64; 2]; 128], under: &[[u64; 2]; 128], n: usize) -> Verdict
+fn crossed(after: [JobSet; 128], under: &[JobSet; 128], n: usize) -> Verdict
     requires n_bound { n ≤ 128 }
     requires inside { Inside n after }
     requires by_index { (u v : ℕ) → holds under.now u v ≡ holds after v u }
@@ -28,7 +29,7 @@ fn crossed(after: [[u64; 2]; 128], under: &[[u64; 2]; 128], n: usize) -> Verdict
 }
 
 // A strict order: its first N, or how much its record and its reduced orders take.
-fn of_order(after: [[u64; 2]; 128], n: usize, hours: &[u16]) -> Verdict
+fn of_order(after: [JobSet; 128], n: usize, hours: &[u16]) -> Verdict
     requires n_nonzero { (0 < n) × (n ≤ 128) }
     requires strict { Strict n (holds after) }
     requires inside { Inside n after }

@@ -4,22 +4,21 @@ ghost use Rattle.poset.specs.Lists.{occurrences, ahead_in};
 ghost use Rattle.relation.specs.Table.{holds};
 ghost use Rattle.record.specs.Bits.{AllBelow};
 
-use relation::set;
+use relation::set::JobSet;
 
 // For each job those that stand later in the first n entries, from the last entry back.
-fn later(list: &[u8; 128], n: usize) -> [[u64; 2]; 128]
+fn later(list: &[u8; 128], n: usize) -> [JobSet; 128]
     requires { (n ≤ 128) × (length list.now ≡ 128) × AllBelow 128 (take n list.now) }
     ensures { (length result ≡ 128) × ((u v : ℕ) → holds result u v ≡ ahead_in u v (take n list.now)) }
 {
-    let none = [0u64; 2];
-    let mut rows = [none; 128];
-    let mut passed = none;
+    let mut rows = [JobSet::EMPTY; 128];
+    let mut passed = JobSet::EMPTY;
     let mut i = n;
     while i > 0 {
         i -= 1;
         let job = usize::from(list[i]);
         rows[job] = passed;
-        let more = set::union(passed, set::only(job));
+        let more = passed.union(JobSet::only(job));
         passed = more;
     }
     rows
@@ -27,7 +26,7 @@ fn later(list: &[u8; 128], n: usize) -> [[u64; 2]; 128]
 
 // The table of the order that the first n entries of both sequences give, which have the same jobs, each once: the rows of the
 // first, each cut down to what stands later in the second.
-pub fn order_of(forward: &[u8; 128], reverse: &[u8; 128], n: usize) -> [[u64; 2]; 128]
+pub fn order_of(forward: &[u8; 128], reverse: &[u8; 128], n: usize) -> [JobSet; 128]
     requires n_bound { (n ≤ 128) × (length forward.now ≡ 128) × (length reverse.now ≡ 128) }
     requires all_below { AllBelow 128 (take n forward.now) × ((u : ℕ) → occurrences u (take n forward.now) ≤ 1)
         × ((u : ℕ) → occurrences u (take n reverse.now) ≡ occurrences u (take n forward.now)) }
@@ -35,13 +34,13 @@ pub fn order_of(forward: &[u8; 128], reverse: &[u8; 128], n: usize) -> [[u64; 2]
         ≡ (ahead_in u v (take n forward.now) && ahead_in u v (take n reverse.now)) }
 {
     let mut rows = later(forward, n);
-    let mut passed = [0u64; 2];
+    let mut passed = JobSet::EMPTY;
     let mut i = n;
     while i > 0 {
         i -= 1;
         let job = usize::from(reverse[i]);
-        rows[job] = set::intersection(rows[job], passed);
-        let more = set::union(passed, set::only(job));
+        rows[job] = rows[job].intersection(passed);
+        let more = passed.union(JobSet::only(job));
         passed = more;
     }
     rows

@@ -9,8 +9,8 @@ use mathlib.Core.Bool.{Bool, true, false, ◌&&◌, ◌||◌}
 use Rattle.std.specs.Prelude.{None, Some}
 use mathlib.Core.Logic.{⊎_elim}
 use lib.Dec.{eqb}
-use lib.ListN.{length, get_or, drop, set, replicate, length-drop, get_or-replicate, get_or-eq_default}
-use lib.Seq.{drop-cons, get_or-set_same, get_or-set_other}
+use lib.ListN.{length, get_or, drop, set, replicate, length-drop, get_or-eq_default}
+use lib.Seq.{drop-cons}
 use borrow.Author.Tests.{eqb-true, ne_eqb, lt-leb}
 use Rattle.poset.specs.Lists.{exists}
 use Rattle.poset.specs.Order.{Arc, arc}
@@ -167,25 +167,6 @@ pairs_found (x ∷ y ∷ xs) (Memᴰ.tail m) =
     let d : suc (suc (2 * r.0)) + 1 ≡ suc (suc (2 * r.0 + 1)) = omega arith in
     (suc r.0, omega (arith, r.1), rw (e, d) r.2)
 
--- the rows of a table have two words each
-abbrev Words : List (List ℕ) → Type 0
-Words t = (u : ℕ) → u < 128 → length (get_or t u []) ≡ 2
-
-module _ (t : List (List ℕ)) (w : Words t) (u : ℕ) (l : u < 128) where
-  pub words_row : u < length t
-  words_row =
-      elim (dec_lt u (length t)) [
-        | yes m ↦ m
-        | no m ↦ let past : length t ≤ u = omega arith in absurd (omega (arith, w u l, ap length (get_or-eq_default t [] past)))
-      ]
-
-  pub words_set : (row : List ℕ) → length row ≡ 2 → Words (set t u row)
-  words_set row two x m =
-      elim (ℕ_discrete x u) [
-        | yes e ↦ rw e (ap length (get_or-set_same t u row [] words_row) ∙ two)
-        | no d ↦ ap length (get_or-set_other t u x row [] d) ∙ w x m
-      ]
-
 module _ (xs : List ℕ) where
   -- a table has the arc at place k
   abbrev At : List (List ℕ) → ℕ → Type 0
@@ -241,7 +222,6 @@ module _ (xs : List ℕ) where
   -- a table that has the first i arcs of each quarter, and no others
   pub record Built (q : ℕ) (t : List (List ℕ)) (i : ℕ) : Type 0 where
     pub within : 3 * q + i ≤ length xs / 2
-    pub words : Words t
     pub from : (u v : ℕ) → holds t u v ≡ true → arc (pairs xs) u v ≡ true
     pub first : From t 0 i
     pub second : From t q i
@@ -252,7 +232,6 @@ module _ (xs : List ℕ) where
   built_none q l =
       record {
         within = omega arith;
-        words = λ u l. ap length (get_or-replicate 128 u (replicate 2 0) [] l);
         from = λ u v e. absurd (clash e (holds_blank 128 u v));
         first = λ k l. absurd (omega arith);
         second = λ k l. absurd (omega arith);
@@ -321,11 +300,10 @@ module _ (xs : List ℕ) where
         kept : (o : ℕ) → From t₃ o (i + 1) → From t₄ o (i + 1)
         kept o f k n = put_keeps t₃ (3 * q + i) t₄ p₄ _ _ (f k n)
 
-        pub built_next : Words t₄ → Built q t₄ (i + 1)
-        built_next w =
+        pub built_next : Built q t₄ (i + 1)
+        built_next =
             record {
               within = omega arith;
-              words = w;
               from = put_from t₃ (3 * q + i) t₄ p₄ m from₃;
               first = kept 0 first₃;
               second = kept q second₃;

@@ -9,10 +9,15 @@ use mathlib.Core.Bool.{true, false}
 use mathlib.Core.Logic.{⊎_elim}
 use lib.ListN.{length, get_or, set, replicate, length-set}
 use lib.Seq.{get_or-set_same, get_or-set_other}
+use Rattle.std.proofs.lemmas.List.{get_or_default}
 use Rattle.poset.specs.Order.{Rel}
 use Rattle.poset.proofs.Laws.{false_unless}
 use Rattle.relation.specs.Table.{bit, has, holds}
 use Rattle.relation.proofs.Words.{bit_zero}
+
+-- a row that is read from a table, at any default
+pub row_read : (t : List (List ℕ)) (u : ℕ) (row : List ℕ) → u < length t → get_or t u row ≡ get_or t u []
+row_read t u row l = get_or_default t u row [] l
 
 module _ (t : List (List ℕ)) (u : ℕ) (row : List ℕ) where
   pub row_here : u < length t → (v : ℕ) → holds (set t u row) u v ≡ has row v

@@ -6,6 +6,7 @@ ghost use Rattle.relation.specs.Table.{holds};
 ghost use Rattle.relation.specs.Arcs.{pairs, place, outside, loop, found};
 
 use crate::Found;
+use crate::set::JobSet;
 
 // The greatest number of a list, or 0. A loop with no exit in it, for several numbers at a time.
 fn greatest(list: &[u16]) -> u16
@@ -70,28 +71,25 @@ pub fn first_loop(arcs: &[u16]) -> Found
 }
 
 // The arc at place k into a table.
-fn put(t: &mut [[u64; 2]; 128], arcs: &[u16], k: usize)
+fn put(t: &mut [JobSet; 128], arcs: &[u16], k: usize)
     requires within { Within 128 (pairs arcs.now) }
     requires k_in_bounds { 2 * k + 1 < length arcs.now }
-    requires by_index { (u : ℕ) → u < 128 → length (get_or t.old u []) ≡ 2 }
-    ensures by_index_2 { (u : ℕ) → u < 128 → length (get_or t.new u []) ≡ 2 }
-    ensures by_index_3 { (u v : ℕ) → holds t.new u v ≡ (holds t.old u v
+    ensures { (u v : ℕ) → holds t.new u v ≡ (holds t.old u v
         || (eqb (get_or arcs.now (2 * k) 0) u && eqb (get_or arcs.now (2 * k + 1) 0) v)) }
 {
     let u = arcs[2 * k] as usize;
     let v = arcs[2 * k + 1] as usize;
-    t[u][v / 64] |= 1 << (v % 64);
+    t[u].insert(v);
 }
 
 // The table of the arcs. A step takes one arc of each quarter, since arcs side by side are often of one row, and the second would wait for
 // the first. The quarters are those of one arc more where that makes a multiple of four: the last is one arc short then, and the arcs at the ends of the
 // others are put in after the loop. Where neither number is a multiple of four, quarters overlap.
-pub fn table_of(arcs: &[u16]) -> [[u64; 2]; 128]
+pub fn table_of(arcs: &[u16]) -> [JobSet; 128]
     requires { Within 128 (pairs arcs.now) }
     ensures { (u v : ℕ) → holds result u v ≡ arc (pairs arcs.now) u v }
 {
-    let none = [0u64; 2];
-    let mut t = [none; 128];
+    let mut t = [JobSet::EMPTY; 128];
     let quarter = (arcs.len() / 2 + 1) / 4;
     let last = arcs.len() / 2 - 3 * quarter;
     for i in 0..last {

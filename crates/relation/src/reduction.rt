@@ -6,45 +6,45 @@ ghost use Rattle.poset.specs.Order.{Strict, covers, pairs_of};
 ghost use Rattle.relation.specs.Table.{bit, has, holds, members, Inside};
 ghost use Rattle.poset.specs.Areas.{overlay, arc_bytes};
 
-use crate::set;
+use crate::set::{self, JobSet};
 
 // The jobs from start on, below end, whose row is not empty, as a word: job start + i is bit i.
-fn inhabited_rows(t: &[[u64; 2]; 128], start: usize, end: usize) -> u64
+fn inhabited_rows(t: &[JobSet; 128], start: usize, end: usize) -> u64
     requires { (start ≤ end) × (end ≤ start + 64) × (end ≤ 128) }
     ensures { (i : ℕ) → i < 64 → bit result i ≡ (ltb (start + i) end && exists (holds t.now (start + i)) (below 128)) }
 {
     let mut jobs = 0;
     for u in start..end {
-        jobs = jobs | (1 << (u - start)) & set::mask(set::inhabited(t[u]));
+        jobs = jobs | (1 << (u - start)) & set::mask(t[u].inhabited());
     }
     jobs
 }
 
 // The domain of a relation: the jobs whose row is not empty.
-pub fn domain(t: &[[u64; 2]; 128], n: usize) -> [u64; 2]
+pub fn domain(t: &[JobSet; 128], n: usize) -> JobSet
     requires n_bound { n ≤ 128 }
     requires inside { Inside n t.now }
     ensures { (w : ℕ) → has result w ≡ exists (holds t.now w) (below 128) }
 {
     let half = if n < 64 { n } else { 64 };
-    [inhabited_rows(t, 0, half), inhabited_rows(t, half, n)]
+    JobSet::from_words([inhabited_rows(t, 0, half), inhabited_rows(t, half, n)])
 }
 
 // The jobs that are after some job after u. Nothing is added by a job outside the domain, nor by one that is found already.
-fn beyond(t: &[[u64; 2]; 128], dom: [u64; 2], u: usize, n: usize) -> [u64; 2]
+fn beyond(t: &[JobSet; 128], dom: JobSet, u: usize, n: usize) -> JobSet
     requires n_bound { (n ≤ 128) × (u < n) }
     requires strict { Strict n (holds t.now) }
     requires inside { Inside n t.now }
     requires by_index { (w : ℕ) → has dom w ≡ exists (holds t.now w) (below 128) }
     ensures { (v : ℕ) → has result v ≡ exists (λ w. holds t.now u w && holds t.now w v) (below n) }
 {
-    let mut far = [0u64; 2];
-    let mut rest = set::intersection(t[u], dom);
-    while set::inhabited(rest) {
-        let w = set::smallest(rest);
-        let x = set::largest(rest);
-        let joined = set::union(set::union(far, t[w]), t[x]);
-        let others = set::difference(set::without_smallest(rest), joined);
+    let mut far = JobSet::EMPTY;
+    let mut rest = t[u].intersection(dom);
+    while rest.inhabited() {
+        let w = rest.smallest();
+        let x = rest.largest();
+        let joined = far.union(t[w]).union(t[x]);
+        let others = rest.without_smallest().difference(joined);
         far = joined;
         rest = others;
     }
@@ -52,66 +52,65 @@ fn beyond(t: &[[u64; 2]; 128], dom: [u64; 2], u: usize, n: usize) -> [u64; 2]
 }
 
 // The transitive reduction of an order on the jobs below n.
-pub fn reduced(t: [[u64; 2]; 128], n: usize) -> [[u64; 2]; 128]
+pub fn reduced(t: [JobSet; 128], n: usize) -> [JobSet; 128]
     requires n_bound { n ≤ 128 }
     requires strict { Strict n (holds t) }
     requires inside { Inside n t }
     ensures { (u v : ℕ) → holds result u v ≡ covers n (holds t) u v }
 {
-    let none = [0u64; 2];
-    let mut r = [none; 128];
+    let mut r = [JobSet::EMPTY; 128];
     let dom = domain(&t, n);
     for u in 0..n {
         let far = beyond(&t, dom, u, n);
-        r[u] = set::difference(t[u], far);
+        r[u] = t[u].difference(far);
     }
     r
 }
 
 // How many pairs a table holds.
-pub fn pair_count(t: &[[u64; 2]; 128], n: usize) -> usize
+pub fn pair_count(t: &[JobSet; 128], n: usize) -> usize
     requires n_bound { n ≤ 128 }
     requires inside { Inside n t.now }
     ensures { result ≡ length (pairs_of n (holds t.now)) }
 {
     let mut count = 0;
     for u in 0..n {
-        count += set::size(t[u]);
+        count += t[u].size();
     }
     count
 }
 
 // Writes the pairs from u to each job of the set, two bytes for each; the place after them.
-fn write_each(u: usize, jobs: [u64; 2], at: usize, area: &mut [u8]) -> usize
+fn write_each(u: usize, jobs: JobSet, at: usize, area: &mut [u8]) -> usize
     requires { (u < 128) × (at + 2 * length (members jobs) ≤ length area.old) }
     ensures value { result ≡ at + 2 * length (members jobs) }
     ensures area_after { area.new ≡ sets area.old at (arc_bytes (map (λ v. (u, v)) (members jobs))) }
 {
     let mut k = at;
     let mut rest = jobs;
-    while set::inhabited(rest) {
-        let v = set::smallest(rest);
+    while rest.inhabited() {
+        let v = rest.smallest();
         area[k] = u as u8;
         area[k + 1] = v as u8;
         k += 2;
-        let others = set::without_smallest(rest);
+        let others = rest.without_smallest();
         rest = others;
     }
     k
 }
 
 // As write_each, one word of the row after the other, which is quicker: the other word is known to be 0.
-fn write_row(u: usize, row: [u64; 2], at: usize, area: &mut [u8]) -> usize
+fn write_row(u: usize, row: JobSet, at: usize, area: &mut [u8]) -> usize
     requires { (u < 128) × (at + 2 * length (members row) ≤ length area.old) }
     ensures value { result ≡ at + 2 * length (members row) }
     ensures area_after { area.new ≡ sets area.old at (arc_bytes (map (λ v. (u, v)) (members row))) }
 {
-    let middle = write_each(u, set::low(row), at, area);
-    write_each(u, set::high(row), middle, area)
+    let middle = write_each(u, row.low(), at, area);
+    write_each(u, row.high(), middle, area)
 }
 
 // Writes the pairs that a table holds, by first job, then second, two bytes for each. The bytes after them stay.
-pub fn write_pairs(t: &[[u64; 2]; 128], n: usize, area: &mut [u8])
+pub fn write_pairs(t: &[JobSet; 128], n: usize, area: &mut [u8])
     requires n_bound { n ≤ 128 }
     requires inside { Inside n t.now }
     requires t_in_bounds { 2 * length (pairs_of n (holds t.now)) ≤ length area.old }

@@ -6,65 +6,65 @@ ghost use Rattle.poset.specs.Order.{is_n, first_n_of};
 ghost use Rattle.relation.specs.Table.{has, holds, members, apart, Twins, Inside};
 ghost use Rattle.relation.specs.Arcs.{found, found_four};
 
-use crate::{Found, FoundFour, set};
+use crate::set::JobSet;
+use crate::{Found, FoundFour};
 
 // The table of the incomparable jobs: for each job those below n that are not itself, nor after it, nor before it.
-fn incomparabilities(after: &[[u64; 2]; 128], under: &[[u64; 2]; 128], n: usize) -> [[u64; 2]; 128]
+fn incomparabilities(after: &[JobSet; 128], under: &[JobSet; 128], n: usize) -> [JobSet; 128]
     requires n_bound { n ≤ 128 }
     requires by_index { (u v : ℕ) → holds under.now u v ≡ holds after.now v u }
     ensures { (u v : ℕ) → holds result u v ≡ apart n (holds after.now) u v }
 {
-    let all = set::all_below(n);
-    let none = [0u64; 2];
-    let mut r = [none; 128];
+    let all = JobSet::all_below(n);
+    let mut r = [JobSet::EMPTY; 128];
     for u in 0..n {
-        let near = set::union(set::only(u), set::union(after[u], under[u]));
-        r[u] = set::difference(all, near);
+        let near = JobSet::only(u).union(after[u].union(under[u]));
+        r[u] = all.difference(near);
     }
     r
 }
 
 // The smallest job of cs whose row has a job of ds.
-fn first_meeting(t: &[[u64; 2]; 128], cs: [u64; 2], ds: [u64; 2]) -> Found
+fn first_meeting(t: &[JobSet; 128], cs: JobSet, ds: JobSet) -> Found
     ensures { found result ≡ first (λ c. only_if (exists (λ d. has ds d && holds t.now c d) (below 128)) c) (members cs) }
 {
     let mut rest = cs;
-    while set::inhabited(rest) {
-        let c = set::smallest(rest);
-        if set::inhabited(set::intersection(ds, t[c])) {
+    while rest.inhabited() {
+        let c = rest.smallest();
+        if ds.intersection(t[c]).inhabited() {
             return Found::At(c);
         }
-        let others = set::without_smallest(rest);
+        let others = rest.without_smallest();
         rest = others;
     }
     Found::Nothing
 }
 
 // As first_meeting, one word of cs after the other, which is quicker: the other word is known to be 0.
-fn first_by_words(t: &[[u64; 2]; 128], cs: [u64; 2], ds: [u64; 2]) -> Found
+fn first_by_words(t: &[JobSet; 128], cs: JobSet, ds: JobSet) -> Found
     ensures { found result ≡ first (λ c. only_if (exists (λ d. has ds d && holds t.now c d) (below 128)) c) (members cs) }
 {
-    let found = first_meeting(t, set::low(cs), ds);
+    let found = first_meeting(t, cs.low(), ds);
     let Found::Nothing = found else {
         return found;
     };
-    first_meeting(t, set::high(cs), ds)
+    first_meeting(t, cs.high(), ds)
 }
 
 // The jobs a, b, c and the smallest of a set, if there is one.
-fn with_smallest(a: usize, b: usize, c: usize, s: [u64; 2]) -> FoundFour
+fn with_smallest(a: usize, b: usize, c: usize, s: JobSet) -> FoundFour
     ensures { found_four result ≡ first (λ d. Some (a, b, c, d)) (members s) }
 {
-    if !set::inhabited(s) {
+    if !s.inhabited() {
         return FoundFour::Nothing;
     }
-    FoundFour::At(a, b, c, set::smallest(s))
+    FoundFour::At(a, b, c, s.smallest())
 }
 
 // The first N with a and b: its c is among cs, which both are before, and its d among ds, which are after b and incomparable to a.
 fn first_with_b(
-    after: &[[u64; 2]; 128],
-    free: &[[u64; 2]; 128],
+    after: &[JobSet; 128],
+    free: &[JobSet; 128],
     n: usize,
     a: usize,
     b: usize,
@@ -75,20 +75,20 @@ fn first_with_b(
     ensures { found_four result
         ≡ first (λ c. first (λ d. only_if (is_n (holds after.now) a b c d) (a, b, c, d)) (below n)) (below n) }
 {
-    let ds = set::intersection(after[b], free[a]);
-    let cs = set::intersection(after[a], after[b]);
-    if !set::inhabited(ds) {
+    let ds = after[b].intersection(free[a]);
+    let cs = after[a].intersection(after[b]);
+    if !ds.inhabited() {
         return FoundFour::Nothing;
     }
     let found = first_by_words(free, cs, ds);
     match found {
-        Found::At(c) => with_smallest(a, b, c, set::intersection(ds, free[c])),
+        Found::At(c) => with_smallest(a, b, c, ds.intersection(free[c])),
         Found::Nothing => FoundFour::Nothing,
     }
 }
 
 // The first N with a: its b is incomparable to a.
-fn first_with_a(after: &[[u64; 2]; 128], free: &[[u64; 2]; 128], n: usize, a: usize) -> FoundFour
+fn first_with_a(after: &[JobSet; 128], free: &[JobSet; 128], n: usize, a: usize) -> FoundFour
     requires n_bound { (n ≤ 128) × (a < n) }
     requires inside { Inside n after.now }
     requires by_index { (u v : ℕ) → holds free.now u v ≡ apart n (holds after.now) u v }
@@ -96,20 +96,20 @@ fn first_with_a(after: &[[u64; 2]; 128], free: &[[u64; 2]; 128], n: usize, a: us
         ≡ first (λ b. first (λ c. first (λ d. only_if (is_n (holds after.now) a b c d) (a, b, c, d)) (below n)) (below n)) (below n) }
 {
     let mut bs = free[a];
-    while set::inhabited(bs) {
-        let b = set::smallest(bs);
+    while bs.inhabited() {
+        let b = bs.smallest();
         let found = first_with_b(after, free, n, a, b);
         let FoundFour::Nothing = found else {
             return found;
         };
-        let others = set::without_smallest(bs);
+        let others = bs.without_smallest();
         bs = others;
     }
     FoundFour::Nothing
 }
 
 // Whether a stands to every job as the one numbered just below it does.
-fn twin(after: &[[u64; 2]; 128], under: &[[u64; 2]; 128], a: usize) -> bool
+fn twin(after: &[JobSet; 128], under: &[JobSet; 128], a: usize) -> bool
     requires a_bound { a < 128 }
     requires by_index { (u v : ℕ) → holds under.now u v ≡ holds after.now v u }
     ensures { result ≡ true → (0 < a) × Twins (holds after.now) (a - 1) a }
@@ -117,17 +117,17 @@ fn twin(after: &[[u64; 2]; 128], under: &[[u64; 2]; 128], a: usize) -> bool
     if a == 0 {
         return false;
     }
-    if !set::same(after[a - 1], after[a]) {
+    if !after[a - 1].same(after[a]) {
         return false;
     }
-    set::same(under[a - 1], under[a])
+    under[a - 1].same(under[a])
 }
 
 // As first_with_a, where no N begins with a job below a: then none begins with a twin of the one just below it either.
 fn first_unless_twin(
-    after: &[[u64; 2]; 128],
-    under: &[[u64; 2]; 128],
-    free: &[[u64; 2]; 128],
+    after: &[JobSet; 128],
+    under: &[JobSet; 128],
+    free: &[JobSet; 128],
     n: usize,
     a: usize,
 ) -> FoundFour
@@ -146,7 +146,7 @@ fn first_unless_twin(
 }
 
 // The first N of the order that one table holds and the other holds transposed.
-pub fn first_n(after: [[u64; 2]; 128], under: &[[u64; 2]; 128], n: usize) -> FoundFour
+pub fn first_n(after: [JobSet; 128], under: &[JobSet; 128], n: usize) -> FoundFour
     requires n_bound { n ≤ 128 }
     requires inside { Inside n after }
     requires by_index { (u v : ℕ) → holds under.now u v ≡ holds after v u }

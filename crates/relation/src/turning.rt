@@ -4,6 +4,8 @@ ghost use Rattle.std.specs.Prelude.{ℕ, ◌^◌, ◌<◌, ◌≤◌, ◌≡◌,
 ghost use Rattle.relation.specs.Table.{bit, has, holds};
 ghost use Rattle.relation.specs.Exchange.{first_row_of, second_row_of, exchanged, Until};
 
+use crate::set::JobSet;
+
 // How many binary digits the numbers below n have.
 pub fn digits(n: usize) -> usize
     requires { n ≤ 128 }
@@ -17,33 +19,37 @@ pub fn digits(n: usize) -> usize
 }
 
 // The first row of a pair after step e: its columns without digit e stay, and the second row's go to those with it.
-fn first_row(a: [u64; 2], b: [u64; 2], e: usize, clear: u64) -> [u64; 2]
+fn first_row(a: JobSet, b: JobSet, e: usize, clear: u64) -> JobSet
     requires e_bound { e < 6 }
     requires by_index { (i : ℕ) → i < 64 → bit clear i ≡ not (bit i e) }
     ensures { (v : ℕ) → has result v ≡ first_row_of e (has a) (has b) v }
 {
+    let [a_low, a_high] = a.words();
+    let [b_low, b_high] = b.words();
     let far: usize = 1 << e;
-    [
-        a[0] & clear | b[0] << far & !clear,
-        a[1] & clear | b[1] << far & !clear,
-    ]
+    JobSet::from_words([
+        a_low & clear | b_low << far & !clear,
+        a_high & clear | b_high << far & !clear,
+    ])
 }
 
 // The second row of a pair after step e: its columns with digit e stay, and the first row's go to those without it.
-fn second_row(a: [u64; 2], b: [u64; 2], e: usize, clear: u64) -> [u64; 2]
+fn second_row(a: JobSet, b: JobSet, e: usize, clear: u64) -> JobSet
     requires e_bound { e < 6 }
     requires by_index { (i : ℕ) → i < 64 → bit clear i ≡ not (bit i e) }
     ensures { (v : ℕ) → has result v ≡ second_row_of e (has a) (has b) v }
 {
+    let [a_low, a_high] = a.words();
+    let [b_low, b_high] = b.words();
     let far: usize = 1 << e;
-    [
-        a[0] >> far & clear | b[0] & !clear,
-        a[1] >> far & clear | b[1] & !clear,
-    ]
+    JobSet::from_words([
+        a_low >> far & clear | b_low & !clear,
+        a_high >> far & clear | b_high & !clear,
+    ])
 }
 
 // Step e below 6 on the rows below 2^w, where clear has the columns of a word without digit e.
-fn within_words(t: &mut [[u64; 2]; 128], e: usize, clear: u64, w: usize)
+fn within_words(t: &mut [JobSet; 128], e: usize, clear: u64, w: usize)
     requires e_bound { (e < 6) × (e < w) × (w ≤ 7) × (length t.old ≡ 128) }
     requires by_index { (i : ℕ) → i < 64 → bit clear i ≡ not (bit i e) }
     requires until { Until (2 ^ w) t.old }
@@ -62,21 +68,25 @@ fn within_words(t: &mut [[u64; 2]; 128], e: usize, clear: u64, w: usize)
 }
 
 // The first row of a pair after step 6: the first words of both.
-fn first_words(a: [u64; 2], b: [u64; 2]) -> [u64; 2]
+fn first_words(a: JobSet, b: JobSet) -> JobSet
     ensures { (v : ℕ) → has result v ≡ first_row_of 6 (has a) (has b) v }
 {
-    [a[0], b[0]]
+    let [a_low, _] = a.words();
+    let [b_low, _] = b.words();
+    JobSet::from_words([a_low, b_low])
 }
 
 // The second row of a pair after step 6: the second words of both.
-fn second_words(a: [u64; 2], b: [u64; 2]) -> [u64; 2]
+fn second_words(a: JobSet, b: JobSet) -> JobSet
     ensures { (v : ℕ) → has result v ≡ second_row_of 6 (has a) (has b) v }
 {
-    [a[1], b[1]]
+    let [_, a_high] = a.words();
+    let [_, b_high] = b.words();
+    JobSet::from_words([a_high, b_high])
 }
 
 // Step 6 on all rows: the second words of the rows below 64 change places with the first words of the others.
-fn across_words(t: &mut [[u64; 2]; 128])
+fn across_words(t: &mut [JobSet; 128])
     requires { length t.old ≡ 128 }
     ensures t_len { length t.new ≡ 128 }
     ensures by_index { (u v : ℕ) → holds t.new u v ≡ exchanged 6 (holds t.old) u v }
@@ -91,7 +101,7 @@ fn across_words(t: &mut [[u64; 2]; 128])
 }
 
 // Step e on the rows below 2^w: a loop for each e, in which the distances are fixed.
-pub fn step(t: &mut [[u64; 2]; 128], e: usize, w: usize)
+pub fn step(t: &mut [JobSet; 128], e: usize, w: usize)
     requires e_lt_w { (e < w) × (w ≤ 7) × (length t.old ≡ 128) }
     requires until { Until (2 ^ w) t.old }
     ensures t_len { length t.new ≡ 128 }

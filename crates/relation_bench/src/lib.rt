@@ -11,6 +11,7 @@ ghost use Rattle.relation.specs.Arcs.{pairs};
 ghost use Rattle.relation_bench.specs.Steps.{fits, acyclic, joins_of, pass_joins_of, reduced_arcs, packed, packed_n};
 
 use closure::passes;
+use relation::set::JobSet;
 use relation::{Found, FoundFour, arcs, order, reduction, search};
 
 // Whether there are at most 128 jobs and the arcs name them alone.
@@ -25,7 +26,7 @@ pub fn fits(arcs: &[u16], n: u16) -> bool
 }
 
 // The closure of the arcs.
-pub fn closed(arcs: &[u16], n: usize) -> [[u64; 2]; 128]
+pub fn closed(arcs: &[u16], n: usize) -> [JobSet; 128]
     requires n_bound { n ≤ 128 }
     requires within { Within n (pairs arcs.now) }
     ensures result_value { holds result ≡ before n (pairs arcs.now) }
@@ -36,7 +37,7 @@ pub fn closed(arcs: &[u16], n: usize) -> [[u64; 2]; 128]
 }
 
 // Whether no job is before itself.
-pub fn acyclic(after: [[u64; 2]; 128], n: usize) -> bool
+pub fn acyclic(after: [JobSet; 128], n: usize) -> bool
     requires { n ≤ 128 }
     ensures { result ≡ acyclic n (holds after) }
 {
@@ -103,7 +104,7 @@ pub fn bench_reduce(arcs: &[u16], n: u16, area: &mut [u8]) -> usize
 }
 
 // The first N of a closure: its jobs, a byte each from the lowest, or 2^32 where there is none.
-fn searched(after: [[u64; 2]; 128], n: usize) -> u64
+fn searched(after: [JobSet; 128], n: usize) -> u64
     requires n_bound { n ≤ 128 }
     requires inside { Inside n after }
     ensures { result ≡ packed (first_n_of n (holds after)) }

@@ -4,44 +4,44 @@ ghost use Rattle.relation.specs.Table.{has, holds};
 ghost use Rattle.poset.specs.Lists.{exists, below};
 ghost use Rattle.writer.specs.Parts.{size_of, Jobs, PartOf, Partial, First, StartsAt, Cut, Sized, Marked, Numbered};
 
-use relation::set;
+use relation::set::JobSet;
 
 // The number at each job of a set.
-fn mark_each(jobs: [u64; 2], number: u8, numbers: &mut [u8; 128])
+fn mark_each(jobs: JobSet, number: u8, numbers: &mut [u8; 128])
     requires jobs { Jobs jobs }
     requires numbers_len { length numbers.old ≡ 128 }
     ensures { Marked (has jobs) number numbers.old numbers.new }
 {
     let mut rest = jobs;
-    while set::inhabited(rest) {
-        let y = set::smallest(rest);
+    while rest.inhabited() {
+        let y = rest.smallest();
         numbers[y] = number;
-        let others = set::without_smallest(rest);
+        let others = rest.without_smallest();
         rest = others;
     }
 }
 
 // As mark_each, one word of the set after the other: in each run the other word is known to be 0.
-fn mark(part: [u64; 2], number: u8, numbers: &mut [u8; 128])
+fn mark(part: JobSet, number: u8, numbers: &mut [u8; 128])
     requires jobs { Jobs part }
     requires numbers_len { length numbers.old ≡ 128 }
     ensures { Marked (has part) number numbers.old numbers.new }
 {
-    mark_each(set::low(part), number, numbers);
-    mark_each(set::high(part), number, numbers);
+    mark_each(part.low(), number, numbers);
+    mark_each(part.high(), number, numbers);
 }
 
 // A part of a set, and how many jobs it has.
 #[derive(Clone, Copy)]
 pub struct Found {
-    pub part: [u64; 2],
+    pub part: JobSet,
     pub size: usize,
 }
 
 // The part of a set of `whole` jobs that x falls to: jobs that near joins stay together. Its jobs get the number, and are counted as they are gone through.
 fn part_of(
-    near: &[[u64; 2]; 128],
-    s: [u64; 2],
+    near: &[JobSet; 128],
+    s: JobSet,
     whole: usize,
     x: usize,
     number: u8,
@@ -55,23 +55,23 @@ fn part_of(
     ensures size_value { result.size ≡ size_of result.part }
     ensures marked { Marked (has result.part) number numbers.old numbers.new }
 {
-    let mut todo = set::only(x);
-    let mut rest = set::difference(s, todo);
+    let mut todo = JobSet::only(x);
+    let mut rest = s.difference(todo);
     let mut size = 0;
-    while set::inhabited(rest) {
-        if !set::inhabited(todo) {
+    while rest.inhabited() {
+        if !todo.inhabited() {
             return Found {
-                part: set::difference(s, rest),
+                part: s.difference(rest),
                 size,
             };
         }
-        let y = set::smallest(todo);
+        let y = todo.smallest();
         numbers[y] = number;
         size += 1;
-        let found = set::intersection(near[y], rest);
-        let others = set::without_smallest(todo);
-        let more = set::union(others, found);
-        let fewer = set::difference(rest, found);
+        let found = near[y].intersection(rest);
+        let others = todo.without_smallest();
+        let more = others.union(found);
+        let fewer = rest.difference(found);
         todo = more;
         rest = fewer;
     }
@@ -85,17 +85,17 @@ fn part_of(
 
 // A job of s that no job of s is before. From the smallest job down by the largest ahead of it: few steps where the jobs are numbered
 // forwards or backwards.
-fn first_of(under: &[[u64; 2]; 128], s: [u64; 2]) -> usize
+fn first_of(under: &[JobSet; 128], s: JobSet) -> usize
     requires jobs { Jobs s }
     requires below_value { exists (has s) (below 128) ≡ true }
     requires partial { Partial (holds under.now) }
     ensures { First (holds under.now) s result }
 {
-    let mut x = set::smallest(s);
-    let mut ahead = set::intersection(under[x], s);
-    while set::inhabited(ahead) {
-        let y = set::largest(ahead);
-        let fewer = set::intersection(under[y], s);
+    let mut x = s.smallest();
+    let mut ahead = under[x].intersection(s);
+    while ahead.inhabited() {
+        let y = ahead.largest();
+        let fewer = under[y].intersection(s);
         x = y;
         ahead = fewer;
     }
@@ -103,7 +103,7 @@ fn first_of(under: &[[u64; 2]; 128], s: [u64; 2]) -> usize
 }
 
 // Where the next part starts.
-fn start_of(under: &[[u64; 2]; 128], series: bool, s: [u64; 2]) -> usize
+fn start_of(under: &[JobSet; 128], series: bool, s: JobSet) -> usize
     requires jobs { Jobs s }
     requires below_value { exists (has s) (below 128) ≡ true }
     requires partial { Partial (holds under.now) }
@@ -112,19 +112,19 @@ fn start_of(under: &[[u64; 2]; 128], series: bool, s: [u64; 2]) -> usize
     if series {
         first_of(under, s)
     } else {
-        set::smallest(s)
+        s.smallest()
     }
 }
 
 // The parts of a set of `whole` jobs, one after another, each with how many jobs it has, and how many parts there are; each job of the set gets the number
 // of its part.
 pub fn split(
-    near: &[[u64; 2]; 128],
-    under: &[[u64; 2]; 128],
+    near: &[JobSet; 128],
+    under: &[JobSet; 128],
     series: bool,
-    s: [u64; 2],
+    s: JobSet,
     whole: usize,
-    parts: &mut [[u64; 2]; 128],
+    parts: &mut [JobSet; 128],
     jobs: &mut [u8; 128],
     numbers: &mut [u8; 128],
 ) -> usize
@@ -139,11 +139,11 @@ pub fn split(
     let mut left = s;
     let mut size = whole;
     let mut count = 0;
-    while set::inhabited(left) {
+    while left.inhabited() {
         let x = start_of(under, series, left);
         let found = part_of(near, left, size, x, (count % 256) as u8, numbers);
         let part = found.part;
-        let fewer = set::difference(left, part);
+        let fewer = left.difference(part);
         parts[count] = part;
         jobs[count] = (found.size % 256) as u8;
         left = fewer;

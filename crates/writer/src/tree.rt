@@ -10,7 +10,7 @@ ghost use Rattle.writer.specs.Turns.{work, transpose, Tables, SpreadRoom, Groupe
 
 use crate::{arrange, parts};
 use record::NODE_ROOM;
-use relation::set;
+use relation::set::JobSet;
 
 // A group: whether it is a series, where it begins in the reverse sequence, and how many jobs it has.
 #[derive(Clone, Copy)]
@@ -23,11 +23,11 @@ pub struct Group {
 // The parts of a group onto the stack, the first on top: each with where it begins in the reverse sequence, the kind of group that
 // it is to become, and its size. A series goes from left to right in the reverse sequence, a parallel group from right to left.
 fn push(
-    parts: &[[u64; 2]; 128],
+    parts: &[JobSet; 128],
     jobs: &[u8; 128],
     count: usize,
     g: Group,
-    stack: &mut [[u64; 2]; 128],
+    stack: &mut [JobSet; 128],
     starts: &mut [usize; 128],
     kinds: &mut [bool; 128],
     sizes: &mut [u8; 128],
@@ -88,7 +88,7 @@ fn put_leaf(
     forward: &mut [u8; 128],
     reverse: &mut [u8; 128],
     starts: &[usize; 128],
-    s: [u64; 2],
+    s: JobSet,
     p: Progress,
 ) -> Progress
     requires nonzero { (0 < length (members s)) × (get_or starts.now (p.height - 1) 0 < 128) }
@@ -99,7 +99,7 @@ fn put_leaf(
         × (forward.new ≡ set forward.old p.placed (lead s))
         × (reverse.new ≡ set reverse.old (get_or starts.now (p.height - 1) 0) (lead s)) }
 {
-    let x = set::smallest(s);
+    let x = s.smallest();
     let top = p.height - 1;
     let start = starts[top];
     let count = p.count;
@@ -151,10 +151,10 @@ fn put_group(
 
 // The top set becomes a group: its field, and its parts spread out in its place.
 fn spread(
-    parts: &[[u64; 2]; 128],
+    parts: &[JobSet; 128],
     jobs: &[u8; 128],
     count: usize,
-    stack: &mut [[u64; 2]; 128],
+    stack: &mut [JobSet; 128],
     starts: &mut [usize; 128],
     kinds: &mut [bool; 128],
     sizes: &mut [u8; 128],
@@ -181,13 +181,13 @@ fn spread(
 
 // The parts of a set for a group of this kind, in its order.
 fn split_as(
-    tied: &[[u64; 2]; 128],
-    free: &[[u64; 2]; 128],
-    under: &[[u64; 2]; 128],
+    tied: &[JobSet; 128],
+    free: &[JobSet; 128],
+    under: &[JobSet; 128],
     series: bool,
-    s: [u64; 2],
+    s: JobSet,
     whole: usize,
-    parts: &mut [[u64; 2]; 128],
+    parts: &mut [JobSet; 128],
     jobs: &mut [u8; 128],
     numbers: &mut [u8; 128],
 ) -> usize
@@ -209,13 +209,13 @@ fn split_as(
 
 // All jobs on the stack; if they come apart as a series, they become the root group.
 fn open_root(
-    free: &[[u64; 2]; 128],
-    under: &[[u64; 2]; 128],
+    free: &[JobSet; 128],
+    under: &[JobSet; 128],
     n: usize,
-    parts: &mut [[u64; 2]; 128],
+    parts: &mut [JobSet; 128],
     jobs: &mut [u8; 128],
     numbers: &mut [u8; 128],
-    stack: &mut [[u64; 2]; 128],
+    stack: &mut [JobSet; 128],
     starts: &mut [usize; 128],
     kinds: &mut [bool; 128],
     sizes: &mut [u8; 128],
@@ -230,7 +230,7 @@ fn open_root(
         (work stack.new starts.new kinds.new sizes.new fields.new) result }
     ensures parts_len_2 { (length parts.new ≡ 128) × (length jobs.new ≡ 128) × (length numbers.new ≡ 128) }
 {
-    let all = set::all_below(n);
+    let all = JobSet::all_below(n);
     let first = parts::split(free, under, true, all, n, parts, jobs, numbers);
     stack[0] = all;
     starts[0] = 0;
@@ -257,13 +257,13 @@ pub struct Step {
 
 // The top set is put as a leaf, or becomes a group; or it cannot be taken apart, as its kind asks.
 fn turn(
-    tied: &[[u64; 2]; 128],
-    free: &[[u64; 2]; 128],
-    under: &[[u64; 2]; 128],
-    parts: &mut [[u64; 2]; 128],
+    tied: &[JobSet; 128],
+    free: &[JobSet; 128],
+    under: &[JobSet; 128],
+    parts: &mut [JobSet; 128],
     jobs: &mut [u8; 128],
     numbers: &mut [u8; 128],
-    stack: &mut [[u64; 2]; 128],
+    stack: &mut [JobSet; 128],
     starts: &mut [usize; 128],
     kinds: &mut [bool; 128],
     sizes: &mut [u8; 128],
@@ -300,11 +300,11 @@ fn turn(
 
 // Which jobs are comparable, and which incomparable, among those below n.
 fn compare(
-    after: &[[u64; 2]; 128],
-    under: &[[u64; 2]; 128],
+    after: &[JobSet; 128],
+    under: &[JobSet; 128],
     n: usize,
-    tied: &mut [[u64; 2]; 128],
-    free: &mut [[u64; 2]; 128],
+    tied: &mut [JobSet; 128],
+    free: &mut [JobSet; 128],
 )
     requires { (n ≤ 128) × (length tied.old ≡ 128) × (length free.old ≡ 128) }
     ensures by_index { (u v : ℕ) → u < n → holds tied.new u v
@@ -312,12 +312,12 @@ fn compare(
     ensures by_index_2 { (u v : ℕ) → u < n → holds free.new u v
         ≡ (ltb v n && (not (eqb u v) && not (holds after.now u v || holds under.now u v))) }
 {
-    let all = set::all_below(n);
+    let all = JobSet::all_below(n);
     for u in 0..n {
-        let near = set::union(after[u], under[u]);
-        let others = set::difference(all, set::only(u));
+        let near = after[u].union(under[u]);
+        let others = all.difference(JobSet::only(u));
         tied[u] = near;
-        free[u] = set::difference(others, near);
+        free[u] = others.difference(near);
     }
 }
 
@@ -362,14 +362,14 @@ fn shaped(p: Progress, fields: [u16; NODE_ROOM], forward: [u8; 128], reverse: [u
 // The tree from its root on, one set of the stack after another, or that there is none: a set of two jobs or more that cannot be taken
 // apart, as its kind asks, has an N.
 fn grow(
-    tied: &[[u64; 2]; 128],
-    free: &[[u64; 2]; 128],
-    under: &[[u64; 2]; 128],
+    tied: &[JobSet; 128],
+    free: &[JobSet; 128],
+    under: &[JobSet; 128],
     n: usize,
-    parts: &mut [[u64; 2]; 128],
+    parts: &mut [JobSet; 128],
     jobs: &mut [u8; 128],
     numbers: &mut [u8; 128],
-    stack: &mut [[u64; 2]; 128],
+    stack: &mut [JobSet; 128],
     starts: &mut [usize; 128],
     kinds: &mut [bool; 128],
     sizes: &mut [u8; 128],
@@ -402,20 +402,20 @@ fn grow(
 }
 
 // The canonical tree of an order, if it has one: what the turns read of the order, and empty lists for them.
-pub fn shape_of(after: [[u64; 2]; 128], under: &[[u64; 2]; 128], n: usize) -> Shape
+pub fn shape_of(after: [JobSet; 128], under: &[JobSet; 128], n: usize) -> Shape
     requires n_nonzero { (0 < n) × (n ≤ 128) }
     requires strict { Strict n (holds after) }
     requires inside { Inside n after }
     requires by_index { (u v : ℕ) → holds under.now u v ≡ holds after v u }
     ensures { result ≡ shape (tree_of n (holds after)) }
 {
-    let mut tied = [[0; 2]; 128];
-    let mut free = [[0; 2]; 128];
+    let mut tied = [JobSet::EMPTY; 128];
+    let mut free = [JobSet::EMPTY; 128];
     compare(&after, under, n, &mut tied, &mut free);
-    let mut parts = [[0; 2]; 128];
+    let mut parts = [JobSet::EMPTY; 128];
     let mut jobs = [0; 128];
     let mut numbers = [0; 128];
-    let mut stack = [[0; 2]; 128];
+    let mut stack = [JobSet::EMPTY; 128];
     let mut starts = [0; 128];
     let mut kinds = [false; 128];
     let mut sizes = [0; 128];

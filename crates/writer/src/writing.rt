@@ -8,6 +8,7 @@ ghost use Rattle.relation.specs.Table.{holds, Inside};
 ghost use Rattle.writer.specs.Written.{written};
 
 use crate::{pack, tree};
+use relation::set::JobSet;
 
 // The bytes of a record, how many there are, the groups, and the two sequences.
 #[derive(Clone, Copy)]
@@ -21,8 +22,8 @@ pub struct Written {
 
 // after holds the order of n jobs, under the same turned round; hours has an entry for each job. Where no tree means the order there is no record.
 pub fn write_record(
-    after: [[u64; 2]; 128],
-    under: &[[u64; 2]; 128],
+    after: [JobSet; 128],
+    under: &[JobSet; 128],
     n: usize,
     hours: &[u16; 128],
 ) -> Option<Written>

@@ -13,12 +13,13 @@ ghost use Rattle.writer.specs.Written.{written};
 ghost use Rattle.writer_bench.specs.Rounds.{count_of, bytes_written};
 
 use relation::order;
+use relation::set::JobSet;
 use writer::writing;
 
 // The record of an order, written so many times over: its bytes in all, 0 where there is none.
 fn repeated(
-    after: [[u64; 2]; 128],
-    under: &[[u64; 2]; 128],
+    after: [JobSet; 128],
+    under: &[JobSet; 128],
     n: usize,
     hours: &[u16; 128],
     rounds: usize,

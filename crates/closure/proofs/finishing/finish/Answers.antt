@@ -7,6 +7,7 @@ use mathlib.Core.Bool.{Bool, ◌&&◌, not}
 use lib.Dec.{eqb}
 use lib.ListN.{get_or, length-set}
 use Rattle.relation.specs.Table.{has, holds}
+use Rattle.relation.proofs.Tables.{row_read}
 use Rattle.closure.proofs.Onward.{rows_next}
 use Rattle.closure.proofs.Search.{rows_job, rows_room}
 use Rattle.closure.proofs.finishing.finish.Goals.{After-difference, Start}
@@ -43,12 +44,13 @@ pub returns : goal.returns
 unfolding holds
 returns c =
     let a = c.args in
-    let made = a.made.now in record {
+    let made = a.made.now in
+    let row = row_read a.t.now a.at c.index-t-at.result (omega (arith, at_row (goal.at.returns c).Start)) in record {
       made_len_2 = length-set made a.at c.joined-whole.result ∙ c.requires.made_len;
       by_index_3 = but (goal.at.returns c).After-difference;
       by_index_4 = λ n p. rows_next n (holds a.t.now) made a.left a.joins.now p a.at c.requires.at_value c.requires.by_index c.difference.result
           (but (goal.at.returns c).After-difference)
           (get_or a.t.now a.at []) c.joined-whole.result (omega (arith, at_row (goal.at.returns c).Start, c.requires.made_len)) (λ x. refl)
-          c.joined-whole.ensures.by_index
-          _ c.joined-whole.ensures.joins_after;
+          (rw row at c.joined-whole.ensures.by_index)
+          _ (rw row at c.joined-whole.ensures.joins_after);
     }

@@ -6,7 +6,7 @@ use mathlib.Core.Bool.{Bool, ◌||◌}
 use lib.Dec.{eqb}
 use Rattle.poset.proofs.Laws.{clash}
 use Rattle.relation.specs.Table.{has, holds}
-use Rattle.relation.proofs.Tables.{has_blank}
+use Rattle.relation.proofs.Tables.{has_blank, row_read}
 use Rattle.closure.proofs.Search.{search_none, search_here, search_rows, search_at, search_depth, search_job, push_less}
 use Rattle.closure.proofs.Search.{search_cycle, search_push, search_last, leave_less, search_less, search_made, search_pop}
 use Rattle.closure.proofs.finishing.follow.Goals.{At-loop-more, After-union-more}
@@ -38,9 +38,10 @@ pub returns-then-inhabited-2 : goal.returns-then-inhabited-2
 unfolding holds
 returns-then-inhabited-2 c =
     let v = c.loop-more.invariant in
+    let row = row_read c.args.t.now c.loop-more.at c.index-t-at.result (omega (arith, at_row (goal.at.returns-then-inhabited-2 c).At-loop-more)) in
     record {
       made_len_2 = (v.size, v.way.size);
-      cyclic = λ e. search_cycle c.requires.by_index v _ c.intersection-next.result (λ x. refl) c.intersection-next.ensures c.union-more.result
+      cyclic = λ e. search_cycle c.requires.by_index v _ c.intersection-next.result (λ x. refl) (rw row at c.intersection-next.ensures) c.union-more.result
           (more (goal.at.returns-then-inhabited-2 c).After-union-more) c.intersection.result c.intersection.ensures
           (sym c.inhabited-then-inhabited.ensures ∙ c.if-inhabited-2.true);
       rows = λ e. absurd (clash e refl);
@@ -65,7 +66,8 @@ loop-more-smaller-then-inhabited c = push_less c.requires.by_index c.loop-more.i
 pub loop-more-preserved-then-inhabited : goal.loop-more-preserved-then-inhabited
 unfolding holds
 loop-more-preserved-then-inhabited c =
-    search_push c.requires.by_index c.loop-more.invariant _ c.intersection-next.result (λ x. refl) c.intersection-next.ensures c.union-more.result
+    let row = row_read c.args.t.now c.loop-more.at c.index-t-at.result (omega (arith, at_row (goal.at.loop-more-preserved-then-inhabited c).At-loop-more)) in
+    search_push c.requires.by_index c.loop-more.invariant _ c.intersection-next.result (λ x. refl) (rw row at c.intersection-next.ensures) c.union-more.result
     (more (goal.at.loop-more-preserved-then-inhabited c).After-union-more) c.intersection.result c.intersection.ensures
     (sym c.inhabited-then-inhabited.ensures ∙ c.if-inhabited-2.false) c.largest-at.result c.largest-at.ensures
 
@@ -75,10 +77,11 @@ unfolding holds
 finish-others-requires c =
     let v = c.loop-more.invariant in
     let start = c.requires.by_index in
+    let row = row_read c.args.t.now c.loop-more.at c.index-t-at.result (omega (arith, at_row (goal.at.finish-others-requires c).At-loop-more)) in
     record {
       made_len = v.size;
       at_value = search_here start v;
-      by_index = search_last start v _ c.intersection-next.result (λ x. refl) c.intersection-next.ensures
+      by_index = search_last start v _ c.intersection-next.result (λ x. refl) (rw row at c.intersection-next.ensures)
           (sym c.inhabited.ensures ∙ c.if-inhabited.false);
       by_index_2 = search_rows start v;
     }

@@ -3,6 +3,7 @@ use native.Mathlib.Omega.{arith}
 use mathlib.Core.Path.{sym, ◌∙◌}
 use Rattle.relation.specs.Table.{holds}
 use Rattle.relation.proofs.Sets.{members_less}
+use Rattle.relation.proofs.Tables.{row_read}
 use Rattle.closure.proofs.Joining.{joined_none, joined_next, joined_end}
 use Rattle.closure.proofs.finishing.join_each.Goals as goal
 
@@ -33,8 +34,9 @@ unfolding holds
 loop-rest-preserved c =
     let l = c.loop-rest in
     let a = c.args in
+    let e = row_read a.rows.now c.smallest-v.result c.index-rows-v.result (omega (arith, c.smallest-v.ensures.small)) in
     joined_next a.rows.now a.row a.jobs a.joins.now l.whole l.rest l.joins l.invariant _ c.smallest-v.ensures _ _
-    c.join-more.ensures.by_index c.without_smallest-others.ensures _ c.join-more.ensures.joins_after
+    (rw e at c.join-more.ensures.by_index) c.without_smallest-others.ensures _ c.join-more.ensures.joins_after
 
 pub returns : goal.returns
 returns c =

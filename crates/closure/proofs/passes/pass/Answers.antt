@@ -10,7 +10,7 @@ returns-then-not-inhabited c =
     let low = c.args.low.now in
     let high = c.args.high.now in
     let k = c.args.k in
-    let idle = sym c.inhabited.ensures ∙ c.if-not-inhabited.true in record {
+    let idle = rw c.from_words.ensures at (sym c.inhabited.ensures) ∙ c.if-not-inhabited.true in record {
       low_len = (c.requires.n_bound.2, c.requires.n_bound.3);
       by_index_2 = step_idle low high k idle;
       value = joins_idle low high k idle c.args.n;
@@ -43,7 +43,7 @@ returns-then-k-lt64 c =
     let e = c.spread.ensures in record {
       low_len = e.col_len;
       by_index_2 = step_joined low high k low k same _ _ e.joins e.joins_2;
-      value = joins_busy low high k low k same c.args.n c.requires.by_index (sym c.inhabited.ensures ∙ c.if-not-inhabited.false) _ e.value;
+      value = joins_busy low high k low k same c.args.n c.requires.by_index (rw c.from_words.ensures at (sym c.inhabited.ensures) ∙ c.if-not-inhabited.false) _ e.value;
     }
 
 pub returns-else-k-lt64 : goal.returns-else-k-lt64
@@ -55,5 +55,5 @@ returns-else-k-lt64 c =
     let e = c.spread-else-k-lt64.ensures in record {
       low_len = (e.col_len.1, e.col_len.0);
       by_index_2 = step_joined low high k high (k - 64) same _ _ e.joins_2 e.joins;
-      value = joins_busy low high k high (k - 64) same c.args.n c.requires.by_index (sym c.inhabited.ensures ∙ c.if-not-inhabited.false) _ e.value;
+      value = joins_busy low high k high (k - 64) same c.args.n c.requires.by_index (rw c.from_words.ensures at (sym c.inhabited.ensures) ∙ c.if-not-inhabited.false) _ e.value;
     }

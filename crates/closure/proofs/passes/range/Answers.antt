@@ -1,7 +1,7 @@
 -- `closure::passes::range` meets its contract.
 use borrow.Author.Rules.{rules}
-use native.Mathlib.Omega.{arith}
 use Rattle.relation.specs.Table.{holds}
+use Rattle.relation.proofs.Tables.{row_read}
 use Rattle.closure.proofs.Warshall.{ranged_none, ranged_next, ranged_end}
 use Rattle.closure.proofs.passes.range.Goals as goal
 
@@ -12,7 +12,8 @@ pub loop-u-preserved : goal.loop-u-preserved
 unfolding holds
 loop-u-preserved c =
     let l = c.loop-u in
-    ranged_next (holds c.args.t.now) c.args.n l.jobs l.u l.invariant (search rules) c.union-more.result c.union-more.ensures
+    let row = row_read c.args.t.now l.u c.index-t-u.result (search rules) in
+    ranged_next (holds c.args.t.now) c.args.n l.jobs l.u l.invariant (search rules) c.union-more.result (rw row at c.union-more.ensures)
 
 pub returns : goal.returns
 returns c =

@@ -1,6 +1,6 @@
 -- `closure::passes::split` meets its contract.
-use native.Mathlib.Omega.{arith}
-use mathlib.Core.Path.{refl}
+use mathlib.Core.Path.{◌∙◌}
+use Rattle.relation.proofs.Tables.{row_read}
 use Rattle.closure.proofs.Columns.{Word, worked_none, worked_next, columns_of}
 use borrow.Author.Rules.{rules}
 use Rattle.closure.proofs.passes.split.Goals as goal
@@ -15,9 +15,10 @@ pub loop-i-preserved : goal.loop-i-preserved
 loop-i-preserved c =
     let l = c.loop-i in
     let a = c.args in
-    let t = a.t.now in (
-      worked_next (Word t 0) a.low.now a.n l.low l.i l.invariant.0 (search rules) (search rules) _ refl,
-      worked_next (Word t 1) a.high.now a.n l.high l.i l.invariant.1 (search rules) (search rules) _ refl,
+    let t = a.t.now in
+    let row = c.words.ensures ∙ row_read t l.i c.index-t-i.result (search rules) in (
+      worked_next (Word t 0) a.low.now a.n l.low l.i l.invariant.0 (search rules) (search rules) _ (rw row),
+      worked_next (Word t 1) a.high.now a.n l.high l.i l.invariant.1 (search rules) (search rules) _ (rw row),
     )
 
 pub returns : goal.returns

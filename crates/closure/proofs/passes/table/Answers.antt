@@ -1,6 +1,4 @@
 -- `closure::passes::table` meets its contract.
-use native.Mathlib.Omega.{arith}
-use mathlib.Core.Path.{refl}
 use Rattle.closure.specs.Columns.{columns}
 use Rattle.relation.proofs.Tables.{filled_none, filled_next, filled_end}
 use borrow.Author.Rules.{rules}
@@ -13,7 +11,7 @@ pub loop-i-preserved : goal.loop-i-preserved
 unfolding columns
 loop-i-preserved c =
     let l = c.loop-i in
-    filled_next (columns c.args.low.now c.args.high.now) c.args.n l.r l.i l.invariant (search rules) (search rules) _ (λ v. refl)
+    filled_next (columns c.args.low.now c.args.high.now) c.args.n l.r l.i l.invariant (search rules) (search rules) _ (λ v. rw c.from_words.ensures)
 
 pub returns : goal.returns
 returns c =

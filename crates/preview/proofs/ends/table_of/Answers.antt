@@ -10,6 +10,7 @@ use borrow.Author.Rules.{rules}
 use Rattle.relation.specs.Table.{has}
 use Rattle.relation.specs.Arcs.{pairs}
 use Rattle.relation.proofs.Flat.{pairs_at}
+use Rattle.relation.proofs.Tables.{row_read}
 use Rattle.preview.proofs.Joining.{added_none, Added-next, added_end}
 use Rattle.preview.proofs.ends.table_of.Goals.{In-loop-k}
 use Rattle.preview.proofs.ends.table_of.Goals as goal
@@ -40,6 +41,12 @@ offset_bounds-t-u c = omega (arith, jobs (goal.at.offset_bounds-t-u c).In-loop-k
 pub bounds-t-u : goal.bounds-t-u
 bounds-t-u c = omega (arith, jobs (goal.at.bounds-t-u c).In-loop-k)
 
+pub listed : goal.listed
+listed c = omega (arith, jobs (goal.at.listed c).In-loop-k)
+
+pub listed-in-loop-k : goal.listed-in-loop-k
+listed-in-loop-k c = omega (arith, jobs (goal.at.listed-in-loop-k c).In-loop-k)
+
 pub only-requires : goal.only-requires
 only-requires c = (jobs (goal.at.only-requires c).In-loop-k).1
 
@@ -52,9 +59,11 @@ bounds-t-u-in-loop-k c = omega (arith, jobs (goal.at.bounds-t-u-in-loop-k c).In-
 pub loop-k-preserved : goal.loop-k-preserved
 loop-k-preserved c =
     let l = c.loop-k in
+    let u = get_or c.args.last.now (2 * l.k) 0 in
+    let row = row_read l.t u c.index-t-u.result (omega (arith, jobs (goal.at.loop-k-preserved c).In-loop-k)) in
     Added-next c.args.list.now c.args.last.now l.t l.k l.invariant (omega (arith, c.loop-k-test.true)) (jobs (goal.at.loop-k-preserved c).In-loop-k).0
     c.union-row.result
-    (λ v. c.union-row.ensures v ∙ ap (λ b. has (get_or l.t (get_or c.args.last.now (2 * l.k) 0) []) v || b) (c.only.ensures v))
+    (λ v. rw row at c.union-row.ensures v ∙ ap (λ b. has (get_or l.t u []) v || b) (c.only.ensures v))
 
 pub returns : goal.returns
 returns c =

@@ -31,6 +31,9 @@ offset_bounds-rows-job c = omega (arith, (job-entry (goal.at.offset_bounds-rows-
 pub bounds-rows-job : goal.bounds-rows-job
 bounds-rows-job c = omega (arith, (job-entry (goal.at.bounds-rows-job c).In-loop-i).2, c.from-job.ensures)
 
+pub listed : goal.listed
+listed c = omega (arith, (job-entry (goal.at.listed c).In-loop-i).2, c.from-job.ensures)
+
 pub only-requires : goal.only-requires
 only-requires c = omega (arith, (job-entry (goal.at.only-requires c).In-loop-i).2, c.from-job.ensures)
 

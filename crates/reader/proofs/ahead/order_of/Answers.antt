@@ -7,6 +7,7 @@ use lib.Seq.{length-take-le}
 use Rattle.poset.specs.Lists.{ahead_in}
 use Rattle.poset.proofs.Laws.{same_count_mem}
 use Rattle.relation.specs.Table.{holds}
+use Rattle.relation.proofs.Tables.{row_read}
 use Rattle.reader.proofs.Later.{entry, below_same, both_none, both_more, both_all, ahead_first}
 use Rattle.reader.proofs.ahead.order_of.Goals.{In-loop-i}
 use Rattle.reader.proofs.ahead.order_of.Goals as goal
@@ -43,6 +44,12 @@ offset_bounds-rows-job-in-loop-i c = omega (arith, (job-entry (goal.at.offset_bo
 pub bounds-rows-job-in-loop-i : goal.bounds-rows-job-in-loop-i
 bounds-rows-job-in-loop-i c = omega (arith, (job-entry (goal.at.bounds-rows-job-in-loop-i c).In-loop-i).2, c.from-job.ensures)
 
+pub listed : goal.listed
+listed c = omega (arith, (job-entry (goal.at.listed c).In-loop-i).2, c.from-job.ensures)
+
+pub listed-in-loop-i : goal.listed-in-loop-i
+listed-in-loop-i c = omega (arith, (job-entry (goal.at.listed-in-loop-i c).In-loop-i).2, c.from-job.ensures)
+
 pub only-requires : goal.only-requires
 only-requires c = omega (arith, (job-entry (goal.at.only-requires c).In-loop-i).2, c.from-job.ensures)
 
@@ -50,11 +57,14 @@ pub loop-i-preserved : goal.loop-i-preserved
 unfolding holds
 loop-i-preserved c =
     let l = c.loop-i in
+    let small : c.from-job.result < 128 = omega (arith, (job-entry (goal.at.loop-i-preserved c).In-loop-i).2, c.from-job.ensures) in
+    let row = row_read l.rows c.from-job.result c.index-rows-job.result (omega arith) in
     both_more (λ u v. ahead_in u v (take c.args.n c.args.forward.now)) (take c.args.n c.args.reverse.now)
     (λ u. omega (arith, c.requires.all_below.1 u, c.requires.all_below.2 u))
     l.i l.rows l.passed l.invariant c.loop-i-test.true c.from-job.result (c.from-job.ensures ∙ (job-entry (goal.at.loop-i-preserved c).In-loop-i).1)
     c.only.result c.union-more.result c.intersection.result
-    (omega (arith, (job-entry (goal.at.loop-i-preserved c).In-loop-i).2, c.from-job.ensures)) c.only.ensures c.union-more.ensures c.intersection.ensures
+    (omega (arith, (job-entry (goal.at.loop-i-preserved c).In-loop-i).2, c.from-job.ensures)) c.only.ensures c.union-more.ensures
+    (rw row at c.intersection.ensures)
 
 pub returns : goal.returns
 returns c =

@@ -13,56 +13,49 @@ pub put-requires : goal.put-requires
 put-requires c = record {
   within = c.requires;
   k_in_bounds = omega arith;
-  by_index = c.loop-i.invariant.words;
 }
 
 pub put-requires-in-loop-i : goal.put-requires-in-loop-i
 put-requires-in-loop-i c = record {
   within = c.requires;
   k_in_bounds = omega arith;
-  by_index = c.put.ensures.by_index_2;
 }
 
 pub put-requires-in-loop-i-2 : goal.put-requires-in-loop-i-2
 put-requires-in-loop-i-2 c = record {
   within = c.requires;
   k_in_bounds = omega arith;
-  by_index = c.put-in-loop-i.ensures.by_index_2;
 }
 
 pub put-requires-in-loop-i-3 : goal.put-requires-in-loop-i-3
 put-requires-in-loop-i-3 c = record {
   within = c.requires;
   k_in_bounds = omega arith;
-  by_index = c.put-in-loop-i-2.ensures.by_index_2;
 }
 
 pub loop-i-preserved : goal.loop-i-preserved
 loop-i-preserved c =
     built_next c.args.arcs.now _ c.loop-i.t c.loop-i.i c.loop-i.invariant (omega arith) _ _ _
-    c.put.ensures.by_index_3 c.put-in-loop-i.ensures.by_index_3 c.put-in-loop-i-2.ensures.by_index_3 (omega arith) _
-    c.put-in-loop-i-3.ensures.by_index_3 c.put-in-loop-i-3.ensures.by_index_2
+    c.put.ensures c.put-in-loop-i.ensures c.put-in-loop-i-2.ensures (omega arith) _
+    c.put-in-loop-i-3.ensures
 
 pub put-requires-then-last-quarter : goal.put-requires-then-last-quarter
 put-requires-then-last-quarter c =
     record {
       within = c.requires;
       k_in_bounds = omega arith;
-      by_index = c.loop-i.invariant.words;
     }
 
 pub put-requires-then-last-quarter-2 : goal.put-requires-then-last-quarter-2
 put-requires-then-last-quarter-2 c = record {
   within = c.requires;
   k_in_bounds = omega arith;
-  by_index = c.put-then-last-quarter.ensures.by_index_2;
 }
 
 pub put-requires-then-last-quarter-3 : goal.put-requires-then-last-quarter-3
 put-requires-then-last-quarter-3 c = record {
   within = c.requires;
   k_in_bounds = omega arith;
-  by_index = c.put-then-last-quarter-2.ensures.by_index_2;
 }
 
 pub returns-then-last-quarter : goal.returns-then-last-quarter
@@ -71,7 +64,7 @@ returns-then-last-quarter c =
     let quarter = (length arcs / 2 + 1) / 4 in
     let at_last : c.loop-i.i ≡ length arcs / 2 - 3 * quarter = omega (arith, c.loop-i.invariant.within, c.loop-i-test.false) in
     built_last arcs quarter c.loop-i.t _ (subst (Built arcs quarter c.loop-i.t) at_last c.loop-i.invariant) (omega arith) _ _ _
-    c.put-then-last-quarter.ensures.by_index_3 c.put-then-last-quarter-2.ensures.by_index_3 c.put-then-last-quarter-3.ensures.by_index_3 (omega arith)
+    c.put-then-last-quarter.ensures c.put-then-last-quarter-2.ensures c.put-then-last-quarter-3.ensures (omega arith)
     (omega arith)
 
 pub returns-else-last-quarter : goal.returns-else-last-quarter

@@ -1,6 +1,5 @@
 -- `relation::order::transposed` meets its contract.
 use borrow.Author.Rules.{rules}
-use native.Mathlib.Omega.{arith}
 use Rattle.relation.proofs.Exchanging.{turned_none, turned_step, turned_end, until_inside}
 use Rattle.relation.proofs.order.transposed.Goals as goal
 

@@ -16,8 +16,9 @@ inhabited_rows-requires-2 c = elim c.if-n-lt64.branch [ then-n-lt64 w ↦ search
 
 pub returns : goal.returns
 returns c =
-    chosen_row (λ w. exists (holds c.args.t.now w) (below 128)) c.args.n
+    rw c.from_words.ensures
+    (chosen_row (λ w. exists (holds c.args.t.now w) (below 128)) c.args.n
     (λ w e. let f = any_found (holds c.args.t.now w) (below 128) e in (c.requires.inside w f.0 f.2).0)
     (search rules) c.if-n-lt64.half _ _
     (elim c.if-n-lt64.branch [ then-n-lt64 w ↦ omega arith | else-n-lt64 w ↦ omega arith ])
-    c.inhabited_rows.ensures c.inhabited_rows-2.ensures
+    c.inhabited_rows.ensures c.inhabited_rows-2.ensures)

@@ -1,6 +1,6 @@
 -- `relation::reduction::inhabited_rows` meets its contract.
-use native.Mathlib.Omega.{arith}
 use Rattle.relation.specs.Table.{holds}
+use Rattle.relation.proofs.Tables.{row_read}
 use Rattle.relation.proofs.Covers.{chosen_none, chosen_next, chosen_end}
 use borrow.Author.Rules.{rules}
 use Rattle.relation.proofs.reduction.inhabited_rows.Invariants.{some}
@@ -14,8 +14,9 @@ unfolding holds
 loop-u-preserved c =
     let l = c.loop-u in
     let a = c.args in
+    let e = row_read a.t.now l.u c.index-t-u.result (search rules) in
     chosen_next (some a.t.now) a.start a.end l.jobs l.u l.invariant (search rules) (search rules) _ c.mask.result
-    c.inhabited.ensures c.mask.ensures
+    (rw e at c.inhabited.ensures) c.mask.ensures
 
 pub returns : goal.returns
 returns c =

@@ -1,9 +1,8 @@
 -- `relation::reduction::reduced` meets its contract.
 use Rattle.poset.specs.Order.{covers}
 use Rattle.relation.specs.Table.{holds}
-use Rattle.relation.proofs.Tables.{filled_none, filled_next, filled_end}
+use Rattle.relation.proofs.Tables.{row_read, filled_none, filled_next, filled_end}
 use Rattle.relation.proofs.Covers.{covers_inside, covers_row}
-use native.Mathlib.Omega.{arith}
 use borrow.Author.Rules.{rules}
 use Rattle.relation.proofs.reduction.reduced.Goals as goal
 
@@ -22,8 +21,9 @@ beyond-far-requires c =
 pub loop-u-preserved : goal.loop-u-preserved
 loop-u-preserved c =
     let l = c.loop-u in
+    let e = row_read c.args.t l.u c.index-t-u.result (search rules) in
     filled_next (covers c.args.n (holds c.args.t)) c.args.n l.r l.u l.invariant (search rules) (search rules) c.difference.result
-    (covers_row c.args.t c.args.n l.u c.difference.result _ c.difference.ensures c.beyond-far.ensures)
+    (covers_row c.args.t c.args.n l.u c.difference.result _ (rw e at c.difference.ensures) c.beyond-far.ensures)
 
 pub returns : goal.returns
 returns c =

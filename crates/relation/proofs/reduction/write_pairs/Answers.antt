@@ -1,5 +1,5 @@
 -- `relation::reduction::write_pairs` meets its contract.
-use native.Mathlib.Omega.{arith}
+use Rattle.relation.proofs.Tables.{row_read}
 use Rattle.relation.proofs.Listing.{laid_none, laid_room, Laid-next, laid_end}
 use borrow.Author.Rules.{rules}
 use Rattle.relation.proofs.reduction.write_pairs.Goals as goal
@@ -9,17 +9,19 @@ loop-u-init c = laid_none c.args.t.now c.args.n c.args.area.now
 
 pub write_row-next-requires : goal.write_row-next-requires
 write_row-next-requires c =
-    let l = c.loop-u in (
+    let l = c.loop-u in
+    let e = row_read c.args.t.now l.u c.index-t-u.result (search rules) in (
       search rules,
-      laid_room c.args.t.now c.args.n c.args.area.now l.area l.at l.u l.invariant c.requires.n_bound c.requires.inside
-          c.loop-u-test.true c.requires.t_in_bounds,
+      rw e (laid_room c.args.t.now c.args.n c.args.area.now l.area l.at l.u l.invariant c.requires.n_bound c.requires.inside
+          c.loop-u-test.true c.requires.t_in_bounds),
     )
 
 pub loop-u-preserved : goal.loop-u-preserved
 loop-u-preserved c =
     let l = c.loop-u in
+    let e = row_read c.args.t.now l.u c.index-t-u.result (search rules) in
     Laid-next c.args.t.now c.args.n c.args.area.now l.area l.at l.u l.invariant c.requires.n_bound c.requires.inside c.loop-u-test.true _ _
-    c.write_row-next.ensures.value c.write_row-next.ensures.area_after
+    (rw e at c.write_row-next.ensures.value) (rw e at c.write_row-next.ensures.area_after)
 
 pub shape_of-area : goal.shape_of-area
 shape_of-area c = c.loop-u.invariant.size

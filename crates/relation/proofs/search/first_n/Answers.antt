@@ -1,5 +1,4 @@
 -- `relation::search::first_n` meets its contract.
-use native.Mathlib.Omega.{arith}
 use mathlib.Core.Path.{sym, ap, ◌∙◌}
 use Rattle.poset.specs.Order.{first_n_of}
 use Rattle.poset.proofs.Searches.{at_a}

@@ -5,13 +5,16 @@ use Rattle.poset.proofs.Searches.{at_b}
 use Rattle.relation.specs.Table.{holds}
 use Rattle.relation.specs.Arcs.{found_four}
 use Rattle.relation.proofs.Sets.{members_less}
+use borrow.Author.Rules.{rules}
+use Rattle.relation.proofs.Tables.{row_read}
 use Rattle.relation.proofs.Sought.{beside_first, beside_next, sought_hit, sought_end}
 use Rattle.relation.proofs.search.first_with_a.Goals as goal
 
 pub loop-bs-init : goal.loop-bs-init
 unfolding holds
 loop-bs-init c =
-    beside_first c.args.n (holds c.args.after.now) c.args.a _ c.requires.n_bound.0 c.requires.n_bound.1 (c.requires.by_index c.args.a)
+    rw (row_read c.args.free.now c.args.a c.index-free-a.result (search rules))
+    (beside_first c.args.n (holds c.args.after.now) c.args.a _ c.requires.n_bound.0 c.requires.n_bound.1 (c.requires.by_index c.args.a))
 
 pub smallest-b-requires : goal.smallest-b-requires
 smallest-b-requires c = sym c.inhabited.ensures ∙ c.loop-bs-test.true

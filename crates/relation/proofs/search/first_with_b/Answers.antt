@@ -4,6 +4,7 @@ use native.Mathlib.Omega.{arith}
 use mathlib.Core.Path.{sym, ap, ◌∙◌}
 use Rattle.relation.specs.Table.{holds}
 use Rattle.relation.specs.Arcs.{found}
+use Rattle.relation.proofs.Tables.{row_read}
 use Rattle.relation.proofs.Sought.{apart_both, Sides, no_fourth, no_third, third_small, third_found}
 use Rattle.relation.proofs.search.first_with_b.Goals.{Start, After-intersection-cs}
 use Rattle.relation.proofs.search.first_with_b.Goals as goal
@@ -15,14 +16,21 @@ bounds c = let ab = apart_both _ _ _ _ c.requires.n_bound.1 in let l = c.require
 sides : (c : goal.After-intersection-cs)
     → Sides c.args.n (holds c.args.after.now) c.args.a c.args.b (holds c.args.free.now) c.intersection-cs.result c.intersection-ds.result
 unfolding holds
-sides c = record {
-  small = c.requires.n_bound.0;
-  inside = c.requires.inside;
-  apart_ab = c.requires.n_bound.1;
-  frees = c.requires.by_index;
-  above = c.intersection-cs.ensures;
-  beside = c.intersection-ds.ensures;
-}
+sides c =
+    let after = c.args.after.now in
+    let ab = apart_both _ _ _ _ c.requires.n_bound.1 in
+    let n_bound = c.requires.n_bound.0 in
+    let first = row_read after c.args.a c.index-after-a.result (omega arith) in
+    let second = row_read after c.args.b c.index-after-b-2.result (omega arith) in
+    let after_b = row_read after c.args.b c.index-after-b.result (omega arith) in
+    let free_a = row_read c.args.free.now c.args.a c.index-free-a.result (omega arith) in record {
+      small = c.requires.n_bound.0;
+      inside = c.requires.inside;
+      apart_ab = c.requires.n_bound.1;
+      frees = c.requires.by_index;
+      above = rw (first, second) at c.intersection-cs.ensures;
+      beside = rw (after_b, free_a) at c.intersection-ds.ensures;
+    }
 
 pub offset_bounds-after-b : goal.offset_bounds-after-b
 offset_bounds-after-b c = omega (arith, bounds (goal.at.offset_bounds-after-b c).Start)
@@ -48,6 +56,18 @@ offset_bounds-after-b-2 c = omega (arith, bounds (goal.at.offset_bounds-after-b-
 pub bounds-after-b-2 : goal.bounds-after-b-2
 bounds-after-b-2 c = omega (arith, bounds (goal.at.bounds-after-b-2 c).Start)
 
+pub listed : goal.listed
+listed c = omega (arith, bounds (goal.at.listed c).Start)
+
+pub listed-2 : goal.listed-2
+listed-2 c = omega (arith, bounds (goal.at.listed-2 c).Start)
+
+pub listed-3 : goal.listed-3
+listed-3 c = omega (arith, bounds (goal.at.listed-3 c).Start)
+
+pub listed-4 : goal.listed-4
+listed-4 c = omega (arith, bounds (goal.at.listed-4 c).Start)
+
 pub returns-then-not-inhabited : goal.returns-then-not-inhabited
 returns-then-not-inhabited c =
     no_fourth _ _ _ _ _ _ _ (sides (goal.at.returns-then-not-inhabited c).After-intersection-cs) (sym c.inhabited.ensures ∙ c.if-not-inhabited.true)
@@ -64,12 +84,23 @@ pub bounds-free-c : goal.bounds-free-c
 bounds-free-c c =
     third_small _ _ _ _ _ _ _ (sides (goal.at.bounds-free-c c).After-intersection-cs) _ c.first_by_words-found.ensures _ (ap found c.in-At.is)
 
+pub listed-in-At : goal.listed-in-At
+listed-in-At c =
+    omega (
+      arith,
+      third_small _ _ _ _ _ _ _ (sides (goal.at.listed-in-At c).After-intersection-cs) _ c.first_by_words-found.ensures _
+          (ap found c.in-At.is),
+    )
+
 pub returns-in-At : goal.returns-in-At
 unfolding holds
 returns-in-At c =
+    let small =
+    third_small _ _ _ _ _ _ _ (sides (goal.at.returns-in-At c).After-intersection-cs) _ c.first_by_words-found.ensures _ (ap found c.in-At.is) in
+    let e = row_read c.args.free.now c.in-At.c c.index-free-c.result (omega arith) in
     c.with_smallest.ensures
     ∙ third_found _ _ _ _ _ _ _ (sides (goal.at.returns-in-At c).After-intersection-cs) _ c.first_by_words-found.ensures _ (ap found c.in-At.is) _
-    c.intersection.ensures
+    (rw e at c.intersection.ensures)
 
 pub returns-in-Nothing : goal.returns-in-Nothing
 returns-in-Nothing c =

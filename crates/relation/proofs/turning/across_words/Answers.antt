@@ -1,8 +1,8 @@
 -- `relation::turning::across_words` meets its contract.
 use Prim.Native.Nat.{ℕ, ◌+◌}
 use mathlib.Core.Path.{refl, ap}
-use native.Mathlib.Omega.{arith}
 use Rattle.relation.proofs.Digits.{near_itself}
+use Rattle.relation.proofs.Tables.{row_read}
 use Rattle.relation.proofs.Exchanging.{paired_none, paired_next, paired_end, until_rows}
 use borrow.Author.Rules.{rules}
 use Rattle.relation.proofs.turning.across_words.Goals as goal
@@ -14,8 +14,10 @@ pub loop-u-preserved : goal.loop-u-preserved
 loop-u-preserved c =
     let l = c.loop-u in
     let here = near_itself l.u (search rules) in
+    let a = row_read l.t l.u c.index-t-u.result (search rules) in
+    let b = row_read l.t (l.u + 64) c.index-t-x.result (search rules) in
     paired_next 6 c.args.t.now 64 l.t l.u l.invariant _ _ here (ap (λ (x : ℕ). x + 64) here) (search rules) _ _
-    c.first_words.ensures c.second_words.ensures (search rules)
+    (rw (a, b) at c.first_words.ensures) (rw (a, b) at c.second_words.ensures) (search rules)
 
 pub returns : goal.returns
 returns c =

@@ -4,4 +4,6 @@ use borrow.Author.Rules.{rules}
 use Rattle.relation.proofs.turning.second_words.Goals as goal
 
 pub returns : goal.returns
-returns c = second_across c.args.a c.args.b (search rules) (search rules)
+returns c =
+    rw (c.from_words.ensures, ← c.words.ensures, ← c.words-2.ensures)
+    (second_across c.words.result c.words-2.result (search rules) (search rules))

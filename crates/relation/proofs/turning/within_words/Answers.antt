@@ -3,6 +3,7 @@ use Prim.Native.Nat.{◌+◌, ◌-◌, ◌<◌}
 use native.Mathlib.Omega.{arith}
 use Rattle.relation.proofs.Words.{one_shifted}
 use Rattle.relation.proofs.Digits.{near, far, near_first, near_second, near_room}
+use Rattle.relation.proofs.Tables.{row_read}
 use Rattle.relation.proofs.Exchanging.{paired_none, paired_next, paired_end}
 use borrow.Author.Rules.{rules}
 use Rattle.relation.proofs.turning.within_words.Goals.{In-loop-m}
@@ -45,14 +46,29 @@ offset_bounds-t-x-in-loop-m c = omega (arith, room (goal.at.offset_bounds-t-x-in
 pub bounds-t-x-in-loop-m : goal.bounds-t-x-in-loop-m
 bounds-t-x-in-loop-m c = omega (arith, room (goal.at.bounds-t-x-in-loop-m c).In-loop-m)
 
+pub listed : goal.listed
+listed c = omega (arith, room (goal.at.listed c).In-loop-m)
+
+pub listed-in-loop-m : goal.listed-in-loop-m
+listed-in-loop-m c = omega (arith, room (goal.at.listed-in-loop-m c).In-loop-m)
+
+pub listed-in-loop-m-2 : goal.listed-in-loop-m-2
+listed-in-loop-m-2 c = omega (arith, room (goal.at.listed-in-loop-m-2 c).In-loop-m)
+
+pub listed-in-loop-m-3 : goal.listed-in-loop-m-3
+listed-in-loop-m-3 c = omega (arith, room (goal.at.listed-in-loop-m-3 c).In-loop-m)
+
 pub loop-m-preserved : goal.loop-m-preserved
 loop-m-preserved c =
     let l = c.loop-m in
     let a = c.args in
+    let within = room (goal.at.loop-m-preserved c).In-loop-m in
+    let first = row_read l.t (near a.e l.m) c.index-t-u.result (omega (arith, within, l.invariant.rows)) in
+    let second = row_read l.t (near a.e l.m + far a.e) c.index-t-x.result (omega (arith, within, l.invariant.rows)) in
     paired_next a.e a.t.now _ l.t l.m l.invariant _ _
     (near_first a.e a.w l.m (search rules) (search rules) (search rules))
     (near_second a.e a.w l.m (search rules) (search rules) (search rules))
-    (room (goal.at.loop-m-preserved c).In-loop-m) _ _ c.first_row.ensures c.second_row.ensures (search rules)
+    within _ _ (rw (first, second) at c.first_row.ensures) (rw (first, second) at c.second_row.ensures) (search rules)
 
 pub returns : goal.returns
 returns c =

@@ -1,6 +1,8 @@
 -- `parts::first_of`: each step goes to a job before the last.
 use mathlib.Core.Path.{sym, ◌∙◌}
+use native.Mathlib.Omega.{arith}
 use Rattle.relation.specs.Table.{holds}
+use Rattle.relation.proofs.Tables.{row_read}
 use Rattle.writer.proofs.Firsts.{down_next, down_falls, down_end}
 use Rattle.writer.proofs.parts.first_of.Goals as goal
 
@@ -11,7 +13,8 @@ pub loop-x-init : goal.loop-x-init
 unfolding holds
 loop-x-init c =
     let x = c.smallest-x.ensures in
-    record { small = x.small; member = x.member; before = c.intersection-ahead.ensures }
+    let row = row_read c.args.under.now c.smallest-x.result c.index-under-x.result (omega (arith, x.small)) in
+    record { small = x.small; member = x.member; before = rw row at c.intersection-ahead.ensures }
 
 pub largest-y-requires : goal.largest-y-requires
 largest-y-requires c = sym c.inhabited.ensures ∙ c.loop-x-test.true
@@ -20,15 +23,17 @@ pub loop-x-smaller : goal.loop-x-smaller
 unfolding holds
 loop-x-smaller c =
     let y = c.largest-y in
+    let row = row_read c.args.under.now y.result c.index-under-y.result (omega (arith, y.ensures.small)) in
     down_falls (holds c.args.under.now) c.args.s c.loop-x.x c.loop-x.ahead c.loop-x.invariant y.result c.intersection-fewer.result
-    c.requires.partial y.ensures c.intersection-fewer.ensures
+    c.requires.partial y.ensures (rw row at c.intersection-fewer.ensures)
 
 pub loop-x-preserved : goal.loop-x-preserved
 unfolding holds
 loop-x-preserved c =
     let y = c.largest-y in
+    let row = row_read c.args.under.now y.result c.index-under-y.result (omega (arith, y.ensures.small)) in
     down_next (holds c.args.under.now) c.args.s c.loop-x.x c.loop-x.ahead c.loop-x.invariant y.result c.intersection-fewer.result
-    y.ensures c.intersection-fewer.ensures
+    y.ensures (rw row at c.intersection-fewer.ensures)
 
 pub returns : goal.returns
 returns c =

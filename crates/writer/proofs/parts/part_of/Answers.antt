@@ -5,6 +5,7 @@ use native.Mathlib.Nat.{add_comm}
 use native.Mathlib.Omega.{arith}
 use Rattle.poset.proofs.Laws.{eqb-true}
 use Rattle.relation.specs.Table.{has, holds}
+use Rattle.relation.proofs.Tables.{row_read}
 use Rattle.writer.proofs.Searching.{search_start, search_next, search_end, search_all, todo_jobs, rest_jobs, empty}
 use Rattle.writer.specs.Parts.{size_of}
 use Rattle.writer.proofs.Numbering.{gone_none, gone_next, marked_found, marked_all}
@@ -67,9 +68,10 @@ turned : (c : goal.After-difference-fewer)
 unfolding holds
 turned c =
     let y = c.smallest-y in
+    let row = row_read c.args.near.now y.result c.index-near-y.result (omega (arith, y.ensures.small)) in
     search_counts (holds c.args.near.now y.result) c.loop-rest.todo c.loop-rest.rest c.intersection-found.result
     c.without_smallest-others.result c.union-more.result c.difference-fewer.result y.result y.ensures
-    (λ v p. (c.loop-rest.invariant.0.todo_in v p).1) c.intersection-found.ensures c.without_smallest-others.ensures
+    (λ v p. (c.loop-rest.invariant.0.todo_in v p).1) (rw row at c.intersection-found.ensures) c.without_smallest-others.ensures
     c.union-more.ensures c.difference-fewer.ensures
 
 pub loop-rest-smaller : goal.loop-rest-smaller
@@ -79,14 +81,16 @@ pub loop-rest-preserved : goal.loop-rest-preserved
 unfolding holds
 loop-rest-preserved c =
     let y = c.smallest-y in
+    let row = row_read c.args.near.now y.result c.index-near-y.result (omega (arith, y.ensures.small)) in
     let f = c.intersection-found in
+    let found = rw row at f.ensures in
     let o = c.without_smallest-others in
     let m = c.union-more in
     let near = holds c.args.near.now in (
       search_next near c.args.s c.args.x c.loop-rest.todo c.loop-rest.rest y.result f.result o.result m.result c.difference-fewer.result
-          c.loop-rest.invariant.0 y.ensures f.ensures o.ensures m.ensures c.difference-fewer.ensures,
+          c.loop-rest.invariant.0 y.ensures found o.ensures m.ensures c.difference-fewer.ensures,
       gone_next near c.args.s c.args.x c.args.number c.args.numbers.now c.loop-rest.todo c.loop-rest.rest c.loop-rest.numbers
-          c.loop-rest.invariant.0 c.loop-rest.invariant.1 y.result f.result o.result m.result c.difference-fewer.result y.ensures f.ensures
+          c.loop-rest.invariant.0 c.loop-rest.invariant.1 y.result f.result o.result m.result c.difference-fewer.result y.ensures found
           o.ensures m.ensures c.difference-fewer.ensures,
       omega (arith, c.loop-rest.invariant.2, turned (goal.at.loop-rest-preserved c).After-difference-fewer),
     )

@@ -70,6 +70,9 @@ offset_bounds-parts-count c = record { fits = omega (arith, room (goal.at.offset
 pub bounds-parts-count : goal.bounds-parts-count
 bounds-parts-count c = room (goal.at.bounds-parts-count c).After-difference-fewer
 
+pub listed : goal.listed
+listed c = omega (arith, room (goal.at.listed c).After-difference-fewer)
+
 pub bounds-jobs-count : goal.bounds-jobs-count
 bounds-jobs-count c = room (goal.at.bounds-jobs-count c).After-difference-fewer
 

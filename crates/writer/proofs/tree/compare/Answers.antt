@@ -4,6 +4,7 @@ use mathlib.Core.Bool.{◌&&◌, not, and_assoc}
 use native.Mathlib.Omega.{arith}
 use lib.Dec.{eqb, ltb}
 use Rattle.relation.specs.Table.{holds}
+use Rattle.relation.proofs.Tables.{row_read}
 use Rattle.writer.proofs.Rows.{filled_none, filled_next}
 use Rattle.writer.proofs.tree.compare.Invariants.{either, neither}
 use Rattle.writer.proofs.tree.compare.Goals as goal
@@ -21,7 +22,9 @@ loop-u-preserved c =
     let under = c.args.under.now in
     let n = c.args.n in
     let u = c.loop-u.u in
-    let near = c.union-near.ensures in (
+    let one = row_read after u c.index-after-u.result (omega arith) in
+    let other = row_read under u c.index-under-u.result (omega arith) in
+    let near = rw (one, other) at c.union-near.ensures in (
       filled_next (either after under) c.loop-u.tied u c.union-near.result (omega arith) near c.loop-u.invariant.0,
       filled_next (neither after under n) c.loop-u.free u c.difference.result (omega arith)
           (λ v.

@@ -6,6 +6,7 @@ use native.Mathlib.Omega.{arith}
 use lib.ListN.{length, get_or}
 use Rattle.relation.specs.Table.{members}
 use Rattle.writer.specs.Stack.{entries}
+use Rattle.relation.proofs.Tables.{row_read}
 use Rattle.writer.proofs.Stacking.{push_start, push_next, push_end, fits_whole}
 use Rattle.writer.proofs.tree.push.Goals.{After-from-size}
 use Rattle.writer.proofs.tree.push.Goals as goal
@@ -50,10 +51,12 @@ loop-i-preserved c =
     let l = c.loop-i in
     let a = c.args in
     let size = sized (goal.at.loop-i-preserved c).After-from-size in
-    push_next a.parts.now a.count a.g.series a.g.start a.g.whole (entries a.stack.now a.starts.now a.kinds.now a.height) a.height
+    let row = row_read a.parts.now (l.i - 1) c.index-parts-i.result (omega (arith, l.invariant.few, c.loop-i-test.true, c.requires.count_bound.0)) in
+    rw row
+    (push_next a.parts.now a.count a.g.series a.g.start a.g.whole (entries a.stack.now a.starts.now a.kinds.now a.height) a.height
     l.stack l.starts l.kinds l.sizes l.i l.top l.later (l.i - 1) l.invariant (omega (arith, c.loop-i-test.true))
     (omega (arith, c.requires.sized.0.parts_length, c.requires.count_bound.0))
-    _ c.start_of.result _ size c.start_of.ensures (sym c.from-size.ensures) c.requires.count_bound.1
+    _ c.start_of.result _ size c.start_of.ensures (sym c.from-size.ensures) c.requires.count_bound.1)
 
 pub returns : goal.returns
 returns c =

@@ -6,6 +6,7 @@ use native.Mathlib.Omega.{arith}
 use lib.ListN.{length, get_or}
 use Rattle.relation.specs.Table.{members, holds}
 use Rattle.writer.specs.Turns.{work, top_of, PartedAs, put, opens, stays}
+use Rattle.relation.proofs.Tables.{row_read}
 use Rattle.writer.proofs.Turning.{parted_lengths, spread_room}
 use Rattle.writer.proofs.tree.turn.Goals.{After-from-whole, After-split_as-count}
 use Rattle.writer.proofs.tree.turn.Goals as goal
@@ -17,7 +18,7 @@ whole c = c.from-whole.ensures ∙ c.requires.top_room.stacks.sized (c.args.p.he
 pub returns-then-whole-eq1 : goal.returns-then-whole-eq1
 returns-then-whole-eq1 c =
     let a = c.args in
-    let e = c.put_leaf-next.ensures in record {
+    let e = rw (row_read a.stack.now (a.p.height - 1) c.index-stack-top.result (omega (arith, c.requires.top_room.up))) at c.put_leaf-next.ensures in record {
       stepped = put
           (record {
             one = sym (whole (goal.at.returns-then-whole-eq1 c).After-from-whole) ∙ c.if-whole-eq1.true;
@@ -33,17 +34,18 @@ returns-then-whole-eq1 c =
     }
 
 pub split_as-count-requires : goal.split_as-count-requires
-split_as-count-requires c = record {
-  jobs = c.requires.top_room.small;
-  whole_value = whole (goal.at.split_as-count-requires c).After-from-whole;
-  partial = c.requires.partial;
-  parts_len = c.requires.parts_len;
-}
+split_as-count-requires c =
+    let row = row_read c.args.stack.now (c.args.p.height - 1) c.index-stack-top.result (omega (arith, c.requires.top_room.up)) in record {
+      jobs = rw row c.requires.top_room.small;
+      whole_value = rw row (whole (goal.at.split_as-count-requires c).After-from-whole);
+      partial = c.requires.partial;
+      parts_len = c.requires.parts_len;
+    }
 
 -- the top set is taken apart
 abbrev apart : (q : goal.After-split_as-count) → PartedAs (holds q.args.tied.now) (holds q.args.free.now) (holds q.args.under.now)
     (top_of (work q.args.stack.now q.args.starts.now q.args.kinds.now q.args.sizes.now q.args.fields.now) q.args.p)
-apart q = record { parts = _; jobs = _; count = _; numbers = _; numbers' = _; taken = q.split_as-count.ensures }
+apart q = record { parts = _; jobs = _; count = _; numbers = _; numbers' = _; taken = rw (row_read q.args.stack.now (q.args.p.height - 1) q.index-stack-top.result (omega (arith, q.requires.top_room.up))) at q.split_as-count.ensures }
 
 pub returns-then-count-lt2 : goal.returns-then-count-lt2
 returns-then-count-lt2 c =
@@ -55,7 +57,7 @@ returns-then-count-lt2 c =
 
 pub spread-next-requires : goal.spread-next-requires
 spread-next-requires c =
-    let two = c.if-count-lt2.false in spread_room c.requires.top_room c.split_as-count.ensures (omega (arith, two))
+    let two = c.if-count-lt2.false in spread_room c.requires.top_room (apart (goal.at.spread-next-requires c).After-split_as-count).taken (omega (arith, two))
 
 pub returns : goal.returns
 returns c =

@@ -1,9 +1,9 @@
--- `relation::set::same` meets its contract.
+-- `relation::set::JobSet::same` meets its contract.
 use mathlib.Core.Path.{ap, ap₂, fun_ext, ◌∙◌}
 use mathlib.Core.Bool.{◌||◌, not}
 use Rattle.poset.specs.Lists.{exists, below}
 use Rattle.relation.proofs.Sets.{in_one_alone}
-use Rattle.relation.proofs.set.same.Goals as goal
+use Rattle.relation.proofs.set.JobSet.same.Goals as goal
 
 pub returns : goal.returns
 returns c =

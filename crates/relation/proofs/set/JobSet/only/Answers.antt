@@ -1,10 +1,10 @@
--- `relation::set::only` meets its contract.
+-- `relation::set::JobSet::only` meets its contract.
 use borrow.Author.Rules.{rules}
 use Prim.Native.Nat.{◌-◌}
 use native.Mathlib.Omega.{arith}
 use Rattle.relation.proofs.Words.{one_shifted}
 use Rattle.relation.proofs.Sets.{only_low, only_high}
-use Rattle.relation.proofs.set.only.Goals as goal
+use Rattle.relation.proofs.set.JobSet.only.Goals as goal
 
 pub returns-then-v-lt64 : goal.returns-then-v-lt64
 returns-then-v-lt64 c = λ x. rw (one_shifted c.args.v (search rules)) (only_low c.args.v (search rules) x)
