@@ -1,2 +1,1 @@
--- What can be said of the reading of the input: a contract of the kit says what a read answers, and not which bytes it reads.
 pub mod Reading

@@ -2,22 +2,41 @@
 
 #![tactic(auto)]
 
-ghost use Rattle.std.specs.Prelude.{◌≤◌, IfOk, length};
+ghost use Rattle.std.specs.Prelude.{◌≡◌, ◌+◌, ◌^◌, ◌<◌, ◌≤◌, IfOk, length};
+ghost use Rattle.streams.specs.Reading.{told, MoreRead, InputRead};
 
 use std::io::{Read, Write};
 use std::{io, str};
 
+// A read after the first `done` bytes of a buffer has answered so: how many bytes there are then.
+fn told(answer: io::Result<usize>, done: usize) -> io::Result<usize>
+    requires { IfOk answer (λ got. done + got < 2 ^ 64) }
+    ensures { result ≡ told answer done }
+{
+    Ok(done + answer?)
+}
+
+// One read more. The first `done` bytes stay.
+fn read_more<R: Read>(input: &mut R, buf: &mut [u8], done: usize) -> io::Result<usize>
+    requires { done ≤ length buf.old }
+    ensures { MoreRead done buf.old buf.new result }
+{
+    let answer = input.read(&mut buf[done..]);
+    told(answer, done)
+}
+
 // Reads until the input ends or the buffer is full: how many bytes the buffer holds then.
 pub fn read_full<R: Read>(input: &mut R, buf: &mut [u8]) -> io::Result<usize>
-    ensures { IfOk result (λ n. n ≤ length buf.new) }
+    ensures within { IfOk result (λ n. n ≤ length buf.new) }
+    ensures reads { InputRead buf.old buf.new result }
 {
     let mut done = 0;
     while done < buf.len() {
-        let got = input.read(&mut buf[done..])?;
-        if got == 0 {
+        let len = read_more(input, buf, done)?;
+        if len == done {
             break;
         }
-        done += got;
+        done = len;
     }
     Ok(done)
 }
