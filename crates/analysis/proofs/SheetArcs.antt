@@ -1,5 +1,6 @@
 -- What is known of the lists after a sheet is read.
 use Prim.Native.Nat.{ℕ, ◌*◌, ◌≤◌, ◌<◌}
+use Rattle.std.specs.Prelude.{Result, Ok, Err}
 use mathlib.Core.Path.{◌≡◌, refl, sym, ap, ◌∙◌}
 use mathlib.Core.List.{List}
 use mathlib.Core.Bool.{Bool, true, false}
@@ -12,23 +13,23 @@ use Rattle.poset.specs.Order.{Arc}
 use Rattle.poset.proofs.Laws.{clash}
 use Rattle.sheet.specs.Scan.{Read, sheet, broken, scan}
 use Rattle.sheet.specs.Listing.{hours_listing, result_of, hours_in, arcs_in, Answers}
-use Rattle.sheet.specs.declared.SheetRead.{SheetRead}
-use Rattle.sheet.specs.declared.SheetRead.TheVariants.{Sheet, Broken}
+use Rattle.sheet.specs.declared.Sheet.{Sheet}
+use Rattle.sheet.specs.declared.Broken.{Broken}
 use Rattle.sheet.proofs.Listing.{hours_length, hours_front, listing_length, listing_front}
 use Rattle.sheet.proofs.Theorems.{scan_sheet}
 use Rattle.analysis.proofs.Lengths.{form_long}
 
-abbrev is_sheet : SheetRead → Bool
-is_sheet (Sheet n k) = true
-is_sheet (Broken p) = false
+abbrev is_sheet : Result Sheet Broken → Bool
+is_sheet (Ok x) = true
+is_sheet (Err b) = false
 
-abbrev jobs : SheetRead → ℕ
-jobs (Sheet n k) = n
-jobs (Broken p) = p
+abbrev jobs : Result Sheet Broken → ℕ
+jobs (Ok x) = x.jobs
+jobs (Err b) = b.at
 
-abbrev arc_count : SheetRead → ℕ
-arc_count (Sheet n k) = k
-arc_count (Broken p) = 0
+abbrev arc_count : Result Sheet Broken → ℕ
+arc_count (Ok x) = x.arcs
+arc_count (Err b) = 0
 
 -- the hours and the arcs of a sheet that is read, and where they are
 pub record SheetLists (s : List ℕ) (n count : ℕ) (times list : List ℕ) : Type 0 where
@@ -41,9 +42,9 @@ pub record SheetLists (s : List ℕ) (n count : ℕ) (times list : List ℕ) : T
   pub front : count ≤ 4096 → take (2 * count) list ≡ arc_bytes arcs
 
 -- what a read of a sheet leaves in a list for 128 jobs and in one with room for 4,096 arcs, or for all that so many bytes may have
-module _ (s held_hours held : List ℕ) (r : SheetRead) (times list : List ℕ) (a : Answers (scan s) held_hours held r times list) where
+module _ (s held_hours held : List ℕ) (r : Result Sheet Broken) (times list : List ℕ) (a : Answers (scan s) held_hours held r times list) where
   pub sheet_lists
-      : (n count : ℕ) → r ≡ Sheet n count → length held_hours ≡ 128 → (8192 ≤ length held) ⊎ (length s ≤ 2 * length held)
+      : (n count : ℕ) → r ≡ Ok (record { jobs = n; arcs = count }) → length held_hours ≡ 128 → (8192 ≤ length held) ⊎ (length s ≤ 2 * length held)
       → SheetLists s n count times list
   unfolding result_of hours_in arcs_in
   sheet_lists n count e room size = go (scan s) refl a
@@ -72,7 +73,7 @@ module _ (s held_hours held : List ℕ) (r : SheetRead) (times list : List ℕ) 
             front = λ few. ap (λ k. take (2 * k) list) long ∙ ap (take (2 * length arcs)) b.listed ∙ listing_front arcs held (omega (arith, long, fits few));
           }
 
-  pub broken_read : (p : ℕ) → r ≡ Broken p → scan s ≡ broken p (hours_in (scan s)) (arcs_in (scan s))
+  pub broken_read : (p : ℕ) → r ≡ Err (record { at = p }) → scan s ≡ broken p (hours_in (scan s)) (arcs_in (scan s))
   unfolding result_of hours_in arcs_in
   broken_read p e = go (scan s) a
     where

@@ -1,5 +1,5 @@
 -- The lines ahead of the order lines: the count line, and the lines of hours one after the other.
-use Rattle.std.proofs.Common.{◌≡◌, ℕ, suc, ◌+◌, ◌-◌, ◌<◌, ◌≤◌, List, [], ◌∷◌, ◌++◌, length}
+use Rattle.std.proofs.Common.{◌≡◌, ℕ, suc, ◌+◌, ◌-◌, ◌<◌, ◌≤◌, List, [], ◌∷◌, ◌++◌, length, Result, Ok, Err}
 use Rattle.std.proofs.Common.{take, drop, sym, refl, ap, ◌∙◌, subst, inl, arith, length-append, length-drop, take_all, drop-drop}
 use Rattle.sheet.specs.Text.{most_digits, hours_digits, line_endings}
 use Rattle.sheet.specs.Scan.{count_field, hours_field, Read, broken, most, hours_ahead, arcs_ahead, field_of}
@@ -8,8 +8,8 @@ use Rattle.sheet.specs.Reading.{ReadsNumber, at_line}
 use Rattle.sheet.specs.Listing.{hours_listing, AddsHours, result_of, hours_in, arcs_in, Answers, ArcsAnswer, at_hours, ReadsHours}
 use Rattle.sheet.specs.declared.line.Part.TheVariants as part
 use Rattle.sheet.specs.declared.HoursRead.TheVariants as hours_read
-use Rattle.sheet.specs.declared.SheetRead.{SheetRead}
-use Rattle.sheet.specs.declared.SheetRead.TheVariants.{Broken}
+use Rattle.sheet.specs.declared.Sheet.{Sheet}
+use Rattle.sheet.specs.declared.Broken.{Broken}
 use Rattle.sheet.proofs.Listing.{listing_none, hours_length, hours_none}
 use Rattle.sheet.proofs.Leading.{leads_scan, leads_within, breaks_scan}
 
@@ -122,7 +122,7 @@ module _ {s : List ℕ} {n : ℕ} {held list : List ℕ} {at job left : ℕ} (g 
 
 module _ {s : List ℕ} {n : ℕ} {held_hours hours : List ℕ} where
   pub timed_lines
-      : {at : ℕ} → ReadsHours s n held_hours (hours_read.Until at) hours → (start : ℕ) {rest : List ℕ} → rest ≡ drop at s → {held : List ℕ} {r : SheetRead}
+      : {at : ℕ} → ReadsHours s n held_hours (hours_read.Until at) hours → (start : ℕ) {rest : List ℕ} → rest ≡ drop at s → {held : List ℕ} {r : Result Sheet Broken}
       → {list : List ℕ} → ((hs : List ℕ) → ArcsAnswer hs (scan_from (at_line n hs []) (start + at) rest) held r list)
       → Answers (scan_from (at_hours n [] n) start s) held_hours held r hours list
   timed_lines {at} t start is {held} {r} {list} a =
@@ -133,10 +133,10 @@ module _ {s : List ℕ} {n : ℕ} {held_hours hours : List ℕ} where
 
   pub timed_broken
       : {place : ℕ} → ReadsHours s n held_hours (hours_read.Broken place) hours → (start : ℕ) (held : List ℕ)
-      → Answers (scan_from (at_hours n [] n) start s) held_hours held (Broken (start + place)) hours held
+      → Answers (scan_from (at_hours n [] n) start s) held_hours held (Err (record { at = start + place })) hours held
   unfolding result_of hours_in arcs_in
   timed_broken {place} t start held =
-      subst (λ (x : Read). Answers x held_hours held (Broken (start + place)) hours held) (sym (t.scans start))
+      subst (λ (x : Read). Answers x held_hours held (Err (record { at = start + place })) hours held) (sym (t.scans start))
       (record { result = refl; hours_listed = t.listed; listed = listing_none held })
 
 module _ {s : List ℕ} where
@@ -153,17 +153,17 @@ module _ {s : List ℕ} where
 
 module _ {s held_hours held : List ℕ} where
   pub answers_rest
-      : {n last : ℕ} → ReadsNumber most_digits line_endings s 0 (part.Number n last) → {rest : List ℕ} → rest ≡ drop (last + 1) s → {r : SheetRead}
+      : {n last : ℕ} → ReadsNumber most_digits line_endings s 0 (part.Number n last) → {rest : List ℕ} → rest ≡ drop (last + 1) s → {r : Result Sheet Broken}
       → {hours list : List ℕ} → Answers (scan_from (at_hours n [] n) (last + 1) rest) held_hours held r hours list
       → Answers (scan s) held_hours held r hours list
   answers_rest {n} {last} c e {r} {hours} {list} =
       subst (λ (x : Read). Answers x held_hours held r hours list) (ap (scan_from (at_hours n [] n) (last + 1)) e ∙ sym (count_read n last c))
 
   pub answers_broken
-      : {place : ℕ} → ReadsNumber most_digits line_endings s 0 (part.Broken place) → Answers (scan s) held_hours held (Broken place) held_hours held
+      : {place : ℕ} → ReadsNumber most_digits line_endings s 0 (part.Broken place) → Answers (scan s) held_hours held (Err (record { at = place })) held_hours held
   unfolding scan endings most result_of hours_in arcs_in hours_ahead arcs_ahead field_of whole
   answers_broken {place} c =
       let e : 0 + place ≡ place = omega arith in
-      subst (λ (x : Read). Answers x held_hours held (Broken place) held_hours held)
+      subst (λ (x : Read). Answers x held_hours held (Err (record { at = place })) held_hours held)
       (sym (breaks_scan 0 (c.scans count_field refl refl).0 (inl refl) (omega arith) ∙ ap (λ (x : ℕ). broken x [] []) e))
       (record { result = refl; hours_listed = hours_none held_hours; listed = listing_none held })

@@ -1,5 +1,5 @@
 -- What a reader of sheets gives, and leaves in the lent lists.
-use Rattle.std.specs.Prelude.{◌≡◌, ℕ, ◌+◌, ◌/◌, ◌<◌, ◌≤◌, List, [], ◌∷◌, ◌++◌, length, take, drop}
+use Rattle.std.specs.Prelude.{◌≡◌, ℕ, ◌+◌, ◌/◌, ◌<◌, ◌≤◌, List, [], ◌∷◌, ◌++◌, length, take, drop, Result, Ok, Err}
 use Rattle.poset.specs.Areas.{overlay, arc_bytes}
 use Rattle.poset.specs.Order.{Arc}
 use Rattle.sheet.specs.Scan.{Read, sheet, broken, State, in_number, after_hours, scan_from}
@@ -8,8 +8,8 @@ use Rattle.sheet.specs.declared.HoursRead.{HoursRead}
 use Rattle.sheet.specs.declared.HoursRead.TheVariants as hours_read
 use Rattle.sheet.specs.declared.Reached.{Reached}
 use Rattle.sheet.specs.declared.Reached.TheVariants as reached
-use Rattle.sheet.specs.declared.SheetRead.{SheetRead}
-use Rattle.sheet.specs.declared.SheetRead.TheVariants.{Sheet, Broken}
+use Rattle.sheet.specs.declared.Sheet.{Sheet}
+use Rattle.sheet.specs.declared.Broken.{Broken}
 
 -- the hours over what a list held: as many as have room
 unfoldable pub hours_listing : List ℕ → List ℕ → List ℕ
@@ -20,9 +20,9 @@ unfoldable pub listing : List Arc → List ℕ → List ℕ
 listing arcs held = overlay (arc_bytes (take (length held / 2) arcs)) held
 
 -- the result of a read: the count and how many arcs, or the place of the fault
-unfoldable pub result_of : Read → SheetRead
-result_of (sheet n hours arcs) = Sheet n (length arcs)
-result_of (broken at hours arcs) = Broken at
+unfoldable pub result_of : Read → Result Sheet Broken
+result_of (sheet n hours arcs) = Ok (record { jobs = n; arcs = length arcs })
+result_of (broken at hours arcs) = Err (record { at = at })
 
 -- the hours and the arcs that were read: all, or those ahead of the fault
 
@@ -35,7 +35,7 @@ arcs_in (sheet n hours arcs) = arcs
 arcs_in (broken at hours arcs) = arcs
 
 -- a read of a sheet, as a result and two lists
-pub record Answers (read : Read) (held_hours held : List ℕ) (r : SheetRead) (hours list : List ℕ) : Type 0 where
+pub record Answers (read : Read) (held_hours held : List ℕ) (r : Result Sheet Broken) (hours list : List ℕ) : Type 0 where
   pub result : r ≡ result_of read
   pub hours_listed : hours ≡ hours_listing (hours_in read) held_hours
   pub listed : list ≡ listing (arcs_in read) held
@@ -51,7 +51,7 @@ pub record AddsArc (i u v : ℕ) (entry exit : List ℕ) : Type 0 where
   pub adds : (arcs : List Arc) (held : List ℕ) → length arcs ≡ i → entry ≡ listing arcs held → exit ≡ listing (arcs ++ ((u, v) ∷ [])) held
 
 -- a read of order lines, where these hours were read ahead of them
-pub record ArcsAnswer (hours : List ℕ) (read : Read) (held : List ℕ) (r : SheetRead) (list : List ℕ) : Type 0 where
+pub record ArcsAnswer (hours : List ℕ) (read : Read) (held : List ℕ) (r : Result Sheet Broken) (list : List ℕ) : Type 0 where
   pub result : r ≡ result_of read
   pub after : hours_in read ≡ hours
   pub listed : list ≡ listing (arcs_in read) held
@@ -101,7 +101,7 @@ pub record ReadsLines (s : List ℕ) (stop ahead : ℕ) (entry list : List ℕ) 
   pub within : LinesWithin s stop ahead r
 
 -- a read of the order lines in s, where `ahead` arcs are listed already
-pub record AnswersAfter (ahead : ℕ) (s : List ℕ) (start n : ℕ) (entry : List ℕ) (r : SheetRead) (list : List ℕ) : Type 0 where
+pub record AnswersAfter (ahead : ℕ) (s : List ℕ) (start n : ℕ) (entry : List ℕ) (r : Result Sheet Broken) (list : List ℕ) : Type 0 where
   pub reads
       : (hours : List ℕ) (arcs : List Arc) (held : List ℕ) → length arcs ≡ ahead → entry ≡ listing arcs held
       → ArcsAnswer hours (scan_from (at_line n hours arcs) start s) held r list

@@ -1,8 +1,8 @@
 -- A result as one number, for a caller in C.
-use Rattle.std.specs.Prelude.{ℕ, ◌+◌, ◌*◌, ◌%◌}
-use Rattle.sheet.specs.declared.SheetRead.{SheetRead}
-use Rattle.sheet.specs.declared.SheetRead.TheVariants.{Sheet, Broken}
+use Rattle.std.specs.Prelude.{ℕ, ◌+◌, ◌*◌, ◌%◌, Result, Ok, Err}
+use Rattle.sheet.specs.declared.Sheet.{Sheet}
+use Rattle.sheet.specs.declared.Broken.{Broken}
 
-unfoldable pub packed : SheetRead → ℕ
-packed (Sheet count arcs) = arcs % 1048576 + 1048576 * (1 + count)
-packed (Broken place) = place % 1048576
+unfoldable pub packed : Result Sheet Broken → ℕ
+packed (Ok s) = s.arcs % 1048576 + 1048576 * (1 + s.jobs)
+packed (Err b) = b.at % 1048576

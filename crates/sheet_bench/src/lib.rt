@@ -7,8 +7,6 @@ ghost use Rattle.sheet.specs.Scan.{scan};
 ghost use Rattle.sheet.specs.Listing.{result_of, hours_in, arcs_in, hours_listing, listing};
 ghost use Rattle.sheet_bench.specs.Packed.{packed};
 
-use sheet::SheetRead;
-
 // Reads a sheet into the lists, as far as they have room: how many arcs there are plus 2^20 times one more than the count, or the place of the fault.
 #[unsafe(no_mangle)]
 pub extern "C" fn sheet_bench_read(s: &[u8], hours: &mut [u16], list: &mut [u16]) -> u64
@@ -16,9 +14,8 @@ pub extern "C" fn sheet_bench_read(s: &[u8], hours: &mut [u16], list: &mut [u16]
         × (hours.new ≡ hours_listing (hours_in (scan s.now)) hours.old)
         × (list.new ≡ listing (arcs_in (scan s.now)) list.old) }
 {
-    let read = sheet::read_sheet(s, hours, list);
-    match read {
-        SheetRead::Sheet(count, arcs) => (arcs % 1048576) as u64 + 1048576 * (1 + count as u64),
-        SheetRead::Broken(place) => (place % 1048576) as u64,
+    match sheet::read_sheet(s, hours, list) {
+        Ok(sheet) => (sheet.arcs % 1048576) as u64 + 1048576 * (1 + u64::from(sheet.jobs)),
+        Err(broken) => (broken.at % 1048576) as u64,
     }
 }

@@ -3,33 +3,22 @@
 
 #![tactic(auto)]
 
-ghost use Rattle.std.specs.Prelude.{◌≤◌, length};
+ghost use Rattle.std.specs.Prelude.{◌<◌, ◌≤◌, length, IfSome};
 
-use sheet::SheetRead;
+use sheet::{Broken, Sheet};
 use std::io;
 
-fn number(rt: &impl Print, n: u64) -> io::Result<()> {
-    print!(rt; " {n}")
-}
-
 // Prints the count and how many arcs there are, or the place of the fault.
-fn result(rt: &impl Print, read: SheetRead) -> io::Result<()> {
+fn result(rt: &impl Print, read: Result<Sheet, Broken>) -> io::Result<()> {
     match read {
-        SheetRead::Sheet(count, arcs) => {
-            rt.write_all(b": sheet")?;
-            number(rt, count as u64)?;
-            number(rt, arcs as u64)
-        }
-        SheetRead::Broken(place) => {
-            rt.write_all(b": broken")?;
-            number(rt, place as u64)
-        }
+        Ok(Sheet { jobs, arcs }) => print!(rt; ": sheet {jobs} {arcs}"),
+        Err(Broken { at }) => print!(rt; ": broken {at}"),
     }
 }
 
 fn numbers(rt: &impl Print, list: &[u16]) -> io::Result<()> {
     for n in list {
-        number(rt, *n as u64)?;
+        print!(rt; " {n}")?;
     }
     Ok(())
 }
@@ -41,20 +30,10 @@ const BARE: u16 = 10000;
 fn filled(list: &[u16]) -> usize
     ensures { result ≤ length list.now }
 {
-    let mut n = list.len();
-    while 0 < n {
-        if list[n - 1] != BARE {
-            return n;
-        }
-        n -= 1;
+    match list.iter().rposition(|n| *n != BARE) {
+        Some(last) => last + 1,
+        None => 0,
     }
-    n
-}
-
-// Prints the hours up to the last that was written.
-fn hours_read(rt: &impl Print, hours: &[u16]) -> io::Result<()> {
-    let n = filled(hours);
-    numbers(rt, &hours[0..n])
 }
 
 // Reads a sheet into lists with room for the hours of 128 jobs, and for two arcs and one number more. Prints the result,
@@ -66,42 +45,28 @@ fn case(rt: &impl Print, name: &[u8], s: &[u8]) -> io::Result<()> {
     rt.write_all(name)?;
     result(rt, read)?;
     rt.write_all(b" |")?;
-    hours_read(rt, &hours)?;
+    numbers(rt, &hours[..filled(&hours)])?;
     rt.write_all(b" |")?;
     numbers(rt, &list)?;
     rt.write_all(b"\n")
 }
 
-// The first place from `at` on that holds `b`, or the length.
-fn find(s: &[u8], at: usize, b: u8) -> usize
-    requires { at ≤ length s.now }
-    ensures { (at ≤ result) × (result ≤ length s.now) }
+// The bytes ahead of the first that is `b`, and those after it.
+fn cut(s: &[u8], b: u8) -> Option<(&[u8], &[u8])>
+    ensures { IfSome result (λ parts. length parts.1.now < length s.now) }
 {
-    let mut i = at;
-    while i < s.len() {
-        if s[i] == b {
-            return i;
-        }
-        i += 1;
-    }
-    i
+    let at = s.iter().position(|x| *x == b)?;
+    Some((&s[..at], &s[at + 1..]))
 }
 
 fn cases(rt: &impl Print, s: &[u8]) -> io::Result<()> {
-    let mut at = 0;
-    while at < s.len() {
-        let colon = find(s, at, b':');
-        if colon == s.len() {
-            return Ok(());
-        }
-        let end = find(s, colon, 254);
-        if end == s.len() {
-            return Ok(());
-        }
-        if colon < end {
-            case(rt, &s[at..colon], &s[colon + 1..end])?;
-        }
-        at = end + 1;
+    let mut rest = s;
+    while let Some((name, after)) = cut(rest, b':') {
+        let Some((sheet, others)) = cut(after, 254) else {
+            break;
+        };
+        case(rt, name, sheet)?;
+        rest = others;
     }
     Ok(())
 }

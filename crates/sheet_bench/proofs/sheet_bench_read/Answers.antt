@@ -4,14 +4,14 @@ use Rattle.sheet_bench.specs.Packed.{packed}
 use borrow.Author.Rules.{rules}
 use Rattle.sheet_bench.proofs.sheet_bench_read.Goals as goal
 
-pub returns-in-Sheet : goal.returns-in-Sheet
+pub returns-in-Ok : goal.returns-in-Ok
 unfolding packed
-returns-in-Sheet c =
-    let k = c.read_sheet-read.ensures in
-    (ap packed (sym c.in-Sheet.is ∙ k.result), k.hours_listed, k.listed)
+returns-in-Ok c =
+    let k = c.read_sheet.ensures in
+    (rw c.from.ensures (ap packed (sym c.in-Ok.is ∙ k.result)), k.hours_listed, k.listed)
 
-pub returns-in-Broken : goal.returns-in-Broken
+pub returns-in-Err : goal.returns-in-Err
 unfolding packed
-returns-in-Broken c =
-    let k = c.read_sheet-read.ensures in
-    (ap packed (sym c.in-Broken.is ∙ k.result), k.hours_listed, k.listed)
+returns-in-Err c =
+    let k = c.read_sheet.ensures in
+    (ap packed (sym c.in-Err.is ∙ k.result), k.hours_listed, k.listed)
