@@ -26,7 +26,7 @@ unfolding run_outcome
 shows_11 bytes e = rw (run_outcome, e) (record { answers = refl; total_is = refl; count_is = refl; jobs_are = refl })
 
 module _ {bytes : List ℕ} {x : NodeList} (d : Decoded bytes x) where
-  abbrev run : WorkRun
+  abbrev pub run : WorkRun
   run = longest (hours_of x.hours) d.tree
 
   pub linked : (next : List ℕ) (r : Run) → Found run next r → Linked next r.first r.last run.1

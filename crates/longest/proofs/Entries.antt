@@ -9,35 +9,25 @@ use lib.Seq.{split_at, take-suc, length-take-le, get_or-set_same, get_or-set_oth
 use Rattle.poset.specs.Lists.{occurrences, sum}
 use Rattle.poset.specs.Tree.{Kind, series}
 use Rattle.poset.proofs.Laws.{count_append, flat_map_append}
-use Rattle.reader.specs.Parts.{Strand}
 use Rattle.reader.proofs.Strands.{strand_kept}
 use Rattle.longest.specs.Longest.{WorkRun, joined_runs}
-use Rattle.longest.specs.Stack.{Runs, runs, Sized, Entry, Entries, SameFrom, jobs_of, run_of}
+use Rattle.longest.specs.Stack.{no_run, run_at, Sized, Found, Entry, Entries, SameFrom, jobs_of, run_of}
+use Rattle.longest.specs.declared.stack.Run.{Run}
+use Rattle.longest.specs.declared.stack.Stack.{Stack}
 use Rattle.longest.proofs.Measures.{counts, joined_measure}
 
-further : {at : ℕ} {w v : Runs} → SameFrom at w v → SameFrom (suc at) w v
-further s =
-    record {
-      totals_same = λ i l. s.totals_same i (omega arith);
-      firsts_same = λ i l. s.firsts_same i (omega arith);
-      lasts_same = λ i l. s.lasts_same i (omega arith);
-    }
+further : {at : ℕ} {w v : Stack} → SameFrom at w v → SameFrom (suc at) w v
+further s = record { runs_same = λ i l. s.runs_same i (omega arith) }
 
 -- a run rests on its entry and on the next jobs of its own
 
-entry_kept : {w v : Runs} (at : ℕ) (a : WorkRun) → SameFrom at w v → ((u : ℕ) → occurrences u a.1 ≤ 1)
+entry_kept : {w v : Stack} (at : ℕ) (a : WorkRun) → SameFrom at w v → ((u : ℕ) → occurrences u a.1 ≤ 1)
     → ((u : ℕ) → Memᴰ u a.1 → get_or v.next u 0 ≡ get_or w.next u 0) → Entry w at a → Entry v at a
 entry_kept {w} {v} at a same once next e =
-    let kept : Strand v.next (get_or w.firsts at 0) a.1 (get_or w.lasts at 0) =
-    strand_kept (once (get_or w.lasts at 0)) (λ u m _. next u m) e.strand in
-    record {
-      total = same.totals_same at (omega arith) ∙ e.total;
-      strand =
-          subst (λ (x : ℕ). Strand v.next x a.1 (get_or v.lasts at 0)) (sym (same.firsts_same at (omega arith)))
-          (subst (λ (x : ℕ). Strand v.next (get_or w.firsts at 0) a.1 x) (sym (same.lasts_same at (omega arith))) kept);
-    }
+    subst (Found a v.next) (sym (same.runs_same at (omega arith)))
+    (record { total_is = e.total_is; strand = strand_kept (once (run_at w at).last) (λ u m _. next u m) e.strand })
 
-pub entries_kept : {w v : Runs} (at : ℕ) (rs : List WorkRun) → SameFrom at w v → ((u : ℕ) → occurrences u (jobs_of rs) ≤ 1)
+pub entries_kept : {w v : Stack} (at : ℕ) (rs : List WorkRun) → SameFrom at w v → ((u : ℕ) → occurrences u (jobs_of rs) ≤ 1)
     → ((u : ℕ) → Memᴰ u (jobs_of rs) → get_or v.next u 0 ≡ get_or w.next u 0) → Entries w at rs → Entries v at rs
 unfolding flat_map
 entries_kept at [] same once next e = tt
@@ -47,7 +37,7 @@ entries_kept at (a ∷ rs) same once next e = (
       (λ u m. next u (Memᴰ.append_right a.1 m)) e.1,
 )
 
-pub entries_append : (w : Runs) (at : ℕ) (rs ss : List WorkRun) → Entries w at (rs ++ ss) → Entries w at rs × Entries w (at + length rs) ss
+pub entries_append : (w : Stack) (at : ℕ) (rs ss : List WorkRun) → Entries w at (rs ++ ss) → Entries w at rs × Entries w (at + length rs) ss
 entries_append w at [] ss e = (tt, subst (λ (i : ℕ). Entries w i ss) (omega arith) e)
 entries_append w at (a ∷ rs) ss e =
     let (es, fs) = entries_append w (suc at) rs ss e.1 in
@@ -55,46 +45,29 @@ entries_append w at (a ∷ rs) ss e =
     ((e.0, es), subst (λ (i : ℕ). Entries w i ss) place fs)
 
 -- a run put at an entry
-pub entry_put : (w : Runs) (at : ℕ) (a : WorkRun) (first last : ℕ) (next : List ℕ) → Sized w → at < 128 → length next ≡ 128 → Strand next first a.1 last
-    → let v = runs (set w.totals at a.0) (set w.firsts at first) (set w.lasts at last) next in Sized v × Entry v at a × SameFrom (suc at) w v
-entry_put w at a first last next sized l size strand = (
-  record {
-    totals_size = length-set w.totals at a.0 ∙ sized.totals_size;
-    firsts_size = length-set w.firsts at first ∙ sized.firsts_size;
-    lasts_size = length-set w.lasts at last ∙ sized.lasts_size;
-    next_size = size;
-  },
-  record {
-    total = here w.totals a.0 sized.totals_size;
-    strand =
-        subst (λ (x : ℕ). Strand next x a.1 (get_or (set w.lasts at last) at 0)) (sym (here w.firsts first sized.firsts_size))
-        (subst (λ (x : ℕ). Strand next first a.1 x) (sym (here w.lasts last sized.lasts_size)) strand);
-  },
-  record {
-    totals_same = λ i m. get_or-set_other w.totals at i a.0 0 (λ q. omega arith);
-    firsts_same = λ i m. get_or-set_other w.firsts at i first 0 (λ q. omega arith);
-    lasts_same = λ i m. get_or-set_other w.lasts at i last 0 (λ q. omega arith);
-  },
+pub entry_put : (w : Stack) (top at : ℕ) (a : WorkRun) (r : Run) (next : List ℕ) → Sized w → at < 128 → length next ≡ 128 → Found a next r
+    → let v : Stack = record { top = top; runs = set w.runs at r; next = next } in Sized v × Entry v at a × SameFrom (suc at) w v
+entry_put w top at a r next sized l size found = (
+  record { runs_size = length-set w.runs at r ∙ sized.runs_size; next_size = size },
+  subst (Found a next) (sym (get_or-set_same w.runs at r no_run (omega (arith, sized.runs_size)))) found,
+  record { runs_same = λ i m. get_or-set_other w.runs at i r no_run (λ q. omega arith) },
 )
-  where
-    here : (xs : List ℕ) (x : ℕ) → length xs ≡ 128 → get_or (set xs at x) at 0 ≡ x
-    here xs x size = get_or-set_same xs at x 0 (omega arith)
 
--- the run that is missing
-abbrev pub no_run : WorkRun
-no_run = (0, [])
+-- the work that is missing
+abbrev pub no_work : WorkRun
+no_work = (0, [])
 
 -- the runs ahead of one, and this one
 
-pub entries_snoc : (w : Runs) (at : ℕ) (rs : List WorkRun) (i : ℕ) → i < length rs → Entries w at (take (suc i) rs)
-    → Entries w at (take i rs) × Entry w (at + i) (get_or rs i no_run)
+pub entries_snoc : (w : Stack) (at : ℕ) (rs : List WorkRun) (i : ℕ) → i < length rs → Entries w at (take (suc i) rs)
+    → Entries w at (take i rs) × Entry w (at + i) (get_or rs i no_work)
 entries_snoc w at rs i l e =
-    let (es, fs) = entries_append w at (take i rs) (get_or rs i no_run ∷ []) (subst (Entries w at) (take-suc rs i no_run l) e) in
+    let (es, fs) = entries_append w at (take i rs) (get_or rs i no_work ∷ []) (subst (Entries w at) (take-suc rs i no_work l) e) in
     let place : at + length (take i rs) ≡ at + i = omega (arith, length-take-le i rs (omega arith)) in
-    (es, subst (λ (j : ℕ). Entry w j (get_or rs i no_run)) place fs.0)
+    (es, subst (λ (j : ℕ). Entry w j (get_or rs i no_work)) place fs.0)
 
-pub entry_at : (w : Runs) (at : ℕ) (rs : List WorkRun) (i : ℕ) → i < length rs → Entries w at rs
-    → Entries w at (take i rs) × Entry w (at + i) (get_or rs i no_run)
+pub entry_at : (w : Stack) (at : ℕ) (rs : List WorkRun) (i : ℕ) → i < length rs → Entries w at rs
+    → Entries w at (take i rs) × Entry w (at + i) (get_or rs i no_work)
 entry_at w at rs i l e =
     entries_snoc w at rs i l
     (entries_append w at (take (suc i) rs) (drop (suc i) rs) (subst (Entries w at) (sym (take-append-drop (suc i) rs)) e)).0
@@ -102,12 +75,12 @@ entry_at w at rs i l e =
 -- where the jobs of all runs stand: in those ahead of one, in it, or in those after it
 pub jobs_parted : (rs : List WorkRun) (i : ℕ) → i < length rs → (u : ℕ)
     → occurrences u (jobs_of rs)
-    ≡ occurrences u (jobs_of (take i rs)) + (occurrences u (get_or rs i no_run).1 + occurrences u (jobs_of (drop (suc i) rs)))
+    ≡ occurrences u (jobs_of (take i rs)) + (occurrences u (get_or rs i no_work).1 + occurrences u (jobs_of (drop (suc i) rs)))
 unfolding flat_map
 jobs_parted rs i l u =
-    let a = get_or rs i no_run in
+    let a = get_or rs i no_work in
     let later = drop (suc i) rs in
-    ap (λ (x : List WorkRun). occurrences u (jobs_of x)) (split_at rs i no_run l)
+    ap (λ (x : List WorkRun). occurrences u (jobs_of x)) (split_at rs i no_work l)
     ∙ ap (occurrences u) (flat_map_append (λ (x : WorkRun). x.1) (take i rs) (a ∷ later))
     ∙ omega (arith, count_append u (jobs_of (take i rs)) (a.1 ++ jobs_of later), count_append u a.1 (jobs_of later))
 

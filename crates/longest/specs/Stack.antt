@@ -12,38 +12,37 @@ use Rattle.reader.specs.Nodes.{Step, Fits}
 use Rattle.reader.specs.Parts.{Strand}
 use Rattle.longest.specs.Longest.{WorkRun, joined_runs, longest}
 use Rattle.longest.specs.declared.stack.Run.{Run}
+use Rattle.longest.specs.declared.stack.Stack.{Stack}
 use Rattle.longest.specs.declared.showing.Showing.{Showing}
 
--- the stack's lists, from its top on: the total, the first and the last job of each run; and for each job the one after it in its run
-pub record Runs : Type 0 where
-  pub totals : List ℕ
-  pub firsts : List ℕ
-  pub lasts : List ℕ
-  pub next : List ℕ
+-- the run that is missing
+abbrev pub no_run : Run
+no_run = record { total = 0; first = 0; last = 0 }
 
-abbrev pub runs : List ℕ → List ℕ → List ℕ → List ℕ → Runs
-runs totals firsts lasts next = record { totals = totals; firsts = firsts; lasts = lasts; next = next }
+-- the run at an entry: its total, its first and its last job
+abbrev pub run_at : Stack → ℕ → Run
+run_at w i = get_or w.runs i no_run
 
-pub record Sized (w : Runs) : Type 0 where
-  pub totals_size : length w.totals ≡ 128
-  pub firsts_size : length w.firsts ≡ 128
-  pub lasts_size : length w.lasts ≡ 128
+pub record Sized (w : Stack) : Type 0 where
+  pub runs_size : length w.runs ≡ 128
   pub next_size : length w.next ≡ 128
 
--- the run a stands at an entry; runs stand at the entries from there on
-pub record Entry (w : Runs) (at : ℕ) (a : WorkRun) : Type 0 where
-  pub total : get_or w.totals at 0 ≡ a.0
-  pub strand : Strand w.next (get_or w.firsts at 0) a.1 (get_or w.lasts at 0)
+-- the run a, by its total, its first and its last job, and the next job of each
+pub record Found (a : WorkRun) (next : List ℕ) (r : Run) : Type 0 where
+  pub total_is : r.total ≡ a.0
+  pub strand : Strand next r.first a.1 r.last
 
-abbrev pub Entries : Runs → ℕ → List WorkRun → Type 0
+-- the run a stands at an entry; runs stand at the entries from there on
+abbrev pub Entry : Stack → ℕ → WorkRun → Type 0
+Entry w at a = Found a w.next (run_at w at)
+
+abbrev pub Entries : Stack → ℕ → List WorkRun → Type 0
 Entries w at [] = Unit {0}
 Entries w at (a ∷ rs) = Entry w at a × Entries w (suc at) rs
 
 -- what stands at the entries from `at` on has stayed
-pub record SameFrom (at : ℕ) (w v : Runs) : Type 0 where
-  pub totals_same : (i : ℕ) → at ≤ i → get_or v.totals i 0 ≡ get_or w.totals i 0
-  pub firsts_same : (i : ℕ) → at ≤ i → get_or v.firsts i 0 ≡ get_or w.firsts i 0
-  pub lasts_same : (i : ℕ) → at ≤ i → get_or v.lasts i 0 ≡ get_or w.lasts i 0
+pub record SameFrom (at : ℕ) (w v : Stack) : Type 0 where
+  pub runs_same : (i : ℕ) → at ≤ i → run_at v i ≡ run_at w i
 
 abbrev pub jobs_of : List WorkRun → List ℕ
 jobs_of = flat_map (λ a. a.1)
@@ -55,39 +54,35 @@ run_of k (a ∷ []) = a
 run_of k (a ∷ b ∷ rs) = joined_runs k a (run_of k (b ∷ rs))
 
 -- the runs of a group's children, from the top of the stack to `end`
-pub record Beside (rs : List WorkRun) (top end : ℕ) (w : Runs) : Type 0 where
+pub record Beside (rs : List WorkRun) (end : ℕ) (w : Stack) : Type 0 where
   pub sized : Sized w
   pub some : 0 < length rs
-  pub last : top + length rs ≡ suc end
+  pub last : w.top + length rs ≡ suc end
   pub inside : end < 128
-  pub entries : Entries w top rs
+  pub entries : Entries w w.top rs
   pub once : (u : ℕ) → occurrences u (jobs_of rs) ≤ 1
   pub small : AllBelow 128 (jobs_of rs)
   pub low : sum (λ (a : WorkRun). a.0) rs ≤ most_hours * 128
 
--- the run of the group at `end`; what is further down is as it was, and so are the next jobs of others
-pub record Joined (k : Kind) (rs : List WorkRun) (end : ℕ) (w v : Runs) : Type 0 where
+-- the run of the group at `end`, on top; what is further down is as it was, and so are the next jobs of others
+pub record Joined (k : Kind) (rs : List WorkRun) (end : ℕ) (w v : Stack) : Type 0 where
   pub sized : Sized v
+  pub top_is : v.top ≡ end
   pub entry : Entry v end (run_of k rs)
   pub below : SameFrom (suc end) w v
   pub next_same : (u : ℕ) → (Memᴰ u (jobs_of rs) → ⊥) → get_or v.next u 0 ≡ get_or w.next u 0
 
-abbrev pub Joins : Kind → (top end : ℕ) → Runs → Runs → Type 0
-Joins k top end w v = (rs : List WorkRun) → Beside rs top end w → Joined k rs end w v
+abbrev pub Joins : Kind → (end : ℕ) → Stack → Stack → Type 0
+Joins k end w v = (rs : List WorkRun) → Beside rs end w → Joined k rs end w v
 
 -- the longest runs of the trees in a row, the first on top
-pub record Stacked (hours : ℕ → ℕ) (ts : List Tree) (top : ℕ) (w : Runs) : Type 0 where
+pub record Stacked (hours : ℕ → ℕ) (ts : List Tree) (w : Stack) : Type 0 where
   pub sized : Sized w
-  pub height : top + length ts ≡ 128
-  pub entries : Entries w top (map (longest hours) ts)
+  pub height : w.top + length ts ≡ 128
+  pub entries : Entries w w.top (map (longest hours) ts)
 
-abbrev pub Stacks : (token : ℕ) (hours : ℕ → ℕ) (top on : ℕ) → Runs → Runs → Type 0
-Stacks token hours top on w v = (ts us : List Tree) → Step token ts us → Fits us → Stacked hours ts top w → Stacked hours us on v
-
--- the run a, by its total, its first and its last job
-pub record Found (a : WorkRun) (next : List ℕ) (r : Run) : Type 0 where
-  pub total_is : r.total ≡ a.0
-  pub strand : Strand next r.first a.1 r.last
+abbrev pub Stacks : (token : ℕ) (hours : ℕ → ℕ) → Stack → Stack → Type 0
+Stacks token hours w v = (ts us : List Tree) → Step token ts us → Fits us → Stacked hours ts w → Stacked hours us v
 
 -- different jobs, each followed by its next
 pub record Linked (next : List ℕ) (first last : ℕ) (jobs : List ℕ) : Type 0 where

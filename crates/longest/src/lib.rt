@@ -32,11 +32,9 @@ pub fn longest_run(bytes: &[u8]) -> LongestRun
             jobs: [0; 128],
         };
     }
-    let tokens = read.tokens;
-    let hours = read.hours;
-    let mut next = [0u8; 128];
-    let run = stack::longest(&tokens, read.count, &hours, &mut next);
-    let shown = showing::shown(&next, run.first, run.last);
+    let stack = stack::Stack::of(&read.tokens[..read.count], &read.hours);
+    let run = stack.run();
+    let shown = showing::shown(&stack.next, run.first, run.last);
     let jobs = shown.jobs;
     LongestRun {
         verdict: Verdict::Accepted(0, 0, 0),

@@ -1,12 +1,12 @@
 //! The longest run, over a record's nodes from the last to the first. The trees that begin at the nodes taken so far stand in a row; a stack
 //! has the run of each, the first on top. A run is its total, its first and its last job, and the jobs between by a list of next jobs.
-ghost use Rattle.std.specs.Prelude.{ℕ, ◌^◌, ◌≡◌, List, length};
+ghost use Rattle.std.specs.Prelude.{ℕ, ◌^◌, ◌≡◌, List, [], ◌∷◌, length};
 ghost use Rattle.poset.specs.Tree.{series, parallel, Tree};
 ghost use Rattle.record.specs.Bits.{AllBelow};
 ghost use Rattle.record.specs.Layout.{hours_bits, hours_of};
 ghost use Rattle.reader.specs.Nodes.{Listed, Step, Fits};
-ghost use Rattle.longest.specs.Longest.{WorkRun, longest};
-ghost use Rattle.longest.specs.Stack.{runs, Beside, Joins, Stacked, Stacks, Found};
+ghost use Rattle.longest.specs.Longest.{WorkRun};
+ghost use Rattle.longest.specs.Stack.{Beside, Joins, Stacked, Stacks, run_at};
 
 // The hours together, and the ends of the run.
 #[derive(Clone, Copy)]
@@ -16,126 +16,94 @@ pub struct Run {
     pub last: u8,
 }
 
-// The runs from `top` to `end` one after the other, at `end`.
-fn chain(
+// The runs of the trees in a row from the entry `top` on, and for each job the one after it in its run.
+#[derive(Clone, Copy)]
+pub struct Stack {
     top: usize,
-    end: usize,
-    totals: &mut [u32; 128],
-    firsts: &mut [u8; 128],
-    lasts: &[u8; 128],
-    next: &mut [u8; 128],
-)
-    requires { (rs : List WorkRun) × Beside rs top end (runs totals.old firsts.old lasts.now next.old) }
-    ensures { Joins series top end
-        (runs totals.old firsts.old lasts.now next.old)
-        (runs totals.new firsts.new lasts.now next.new) }
-{
-    let mut total = totals[end];
-    let mut first = firsts[end];
-    let mut k = end;
-    while k > top {
-        k -= 1;
-        let last = lasts[k];
-        next[usize::from(last)] = first;
-        first = firsts[k];
-        total += totals[k];
-    }
-    totals[end] = total;
-    firsts[end] = first;
+    runs: [Run; 128],
+    pub next: [u8; 128],
 }
 
-// The first of the runs from `top` to `end` with the greatest total, at `end`.
-fn side(
-    top: usize,
-    end: usize,
-    totals: &mut [u32; 128],
-    firsts: &mut [u8; 128],
-    lasts: &mut [u8; 128],
-)
-    requires { (next : List ℕ) × (rs : List WorkRun) × Beside rs top end (runs totals.old firsts.old lasts.old next) }
-    ensures { (next : List ℕ) → Joins parallel top end
-        (runs totals.old firsts.old lasts.old next)
-        (runs totals.new firsts.new lasts.new next) }
-{
-    let mut total = totals[end];
-    let mut best = end;
-    let mut k = end;
-    while k > top {
-        k -= 1;
-        if total <= totals[k] {
-            total = totals[k];
-            best = k;
+impl Stack {
+    // The runs down to the entry `end` made into one, one after the other.
+    fn chain(&mut self, end: usize)
+        requires { (rs : List WorkRun) × Beside rs end self.old }
+        ensures { Joins series end self.old self.new }
+    {
+        let mut whole = self.runs[end];
+        for k in (self.top..end).rev() {
+            let run = self.runs[k];
+            self.next[usize::from(run.last)] = whole.first;
+            whole.first = run.first;
+            whole.total += run.total;
+        }
+        self.runs[end] = whole;
+        self.top = end;
+    }
+
+    // Of the runs down to the entry `end` the first with the greatest total.
+    fn side(&mut self, end: usize)
+        requires { (rs : List WorkRun) × Beside rs end self.old }
+        ensures { Joins parallel end self.old self.new }
+    {
+        let mut best = self.runs[end];
+        for run in self.runs[self.top..end].iter().rev() {
+            if best.total <= run.total {
+                best = *run;
+            }
+        }
+        self.runs[end] = best;
+        self.top = end;
+    }
+
+    // One node more, by its token: the run of a leaf goes on top, that of a group takes the place of its children's.
+    fn take(&mut self, token: usize, hours: &[u16; 128])
+        requires { AllBelow (2 ^ hours_bits) hours.now × ((ts us : List Tree) × Step token ts us × Fits us
+            × Stacked (hours_of hours.now) ts self.old) }
+        ensures { Stacks token (hours_of hours.now) self.old self.new }
+    {
+        if token < 256 {
+            self.top -= 1;
+            self.runs[self.top] = Run {
+                total: u32::from(hours[token]),
+                first: token as u8,
+                last: token as u8,
+            };
+            return;
+        }
+        let end = self.top + token % 128;
+        if token < 384 {
+            self.chain(end);
+        } else {
+            self.side(end);
         }
     }
-    totals[end] = total;
-    firsts[end] = firsts[best];
-    lasts[end] = lasts[best];
-}
 
-// One node more, by its token: the run of a leaf goes on top, that of a group takes the place of its children's. The new top.
-fn taken(
-    token: usize,
-    hours: &[u16; 128],
-    top: usize,
-    totals: &mut [u32; 128],
-    firsts: &mut [u8; 128],
-    lasts: &mut [u8; 128],
-    next: &mut [u8; 128],
-) -> usize
-    requires { AllBelow (2 ^ hours_bits) hours.now × ((ts us : List Tree) × Step token ts us × Fits us
-        × Stacked (hours_of hours.now) ts top (runs totals.old firsts.old lasts.old next.old)) }
-    ensures { Stacks token (hours_of hours.now) top result
-        (runs totals.old firsts.old lasts.old next.old)
-        (runs totals.new firsts.new lasts.new next.new) }
-{
-    if token < 256 {
-        let at = top - 1;
-        totals[at] = u32::from(hours[token]);
-        firsts[at] = token as u8;
-        lasts[at] = token as u8;
-        return at;
+    // The run of the tree whose nodes these are.
+    pub fn of(nodes: &[u16], hours: &[u16; 128]) -> Stack
+        requires { AllBelow (2 ^ hours_bits) hours.now × ((t : Tree) × Listed t nodes.now (length nodes.now)) }
+        ensures { (t : Tree) → Listed t nodes.now (length nodes.now) → Stacked (hours_of hours.now) (t ∷ []) result }
+    {
+        let mut stack = Stack {
+            top: 128,
+            runs: [Run {
+                total: 0,
+                first: 0,
+                last: 0,
+            }; 128],
+            next: [0; 128],
+        };
+        for token in nodes.iter().rev() {
+            stack.take(usize::from(*token), hours);
+        }
+        stack
     }
-    let end = top + token % 128;
-    if token < 384 {
-        chain(top, end, totals, firsts, lasts, next);
-        return end;
-    }
-    side(top, end, totals, firsts, lasts);
-    end
-}
 
-// The longest run of the tree whose nodes these are.
-pub fn longest(
-    tokens: &[u16; record::NODE_ROOM],
-    count: usize,
-    hours: &[u16; 128],
-    next: &mut [u8; 128],
-) -> Run
-    requires { AllBelow (2 ^ hours_bits) hours.now × (length next.old ≡ 128) × ((t : Tree) × Listed t tokens.now count) }
-    ensures { (t : Tree) → Listed t tokens.now count
-        → Found (longest (hours_of hours.now) t) next.new result }
-{
-    let mut totals = [0u32; 128];
-    let mut firsts = [0u8; 128];
-    let mut lasts = [0u8; 128];
-    let mut top = 128;
-    let mut i = count;
-    while i > 0 {
-        i -= 1;
-        let on = taken(
-            usize::from(tokens[i]),
-            hours,
-            top,
-            &mut totals,
-            &mut firsts,
-            &mut lasts,
-            next,
-        );
-        top = on;
-    }
-    Run {
-        total: totals[top],
-        first: firsts[top],
-        last: lasts[top],
+    // The run on top.
+    pub fn run(&self) -> Run
+        requires { (hours : ℕ → ℕ) × (t : Tree) × Stacked hours (t ∷ []) self.now }
+        ensures { result ≡ run_at self.now self.now.top }
+    {
+        self.runs[self.top]
     }
 }

@@ -19,5 +19,6 @@ pub mod Realized
 pub mod Whole
 pub mod Listed
 pub mod Pending
+pub mod Backward
 pub mod Gives
 pub mod Decoded
