@@ -88,10 +88,3 @@ prints {p} {q} {d} {d'} {s} o z o' h w =
 
 pub prints_of : {d d' s t : List ℕ} {r : ℕ} → s ≡ t → Prints d s d' r → Prints d t d' r
 prints_of e w = rw e at w
-
--- what was printed is within the buffer
-pub prints_fits : {d d' s : List ℕ} {r : ℕ} → Prints d s d' r → r ≤ length d'
-prints_fits {d} {d'} {s} w = omega (arith, w.ends, ap length w.holds, length-append s (drop (length s) d))
-
-pub prints_size : {d d' s : List ℕ} {r : ℕ} → Prints d s d' r → r ≡ length (take r d')
-prints_size {d} {d'} {s} {r} w = sym (length-take-le r d' (prints_fits w))
