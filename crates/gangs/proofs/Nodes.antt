@@ -11,15 +11,15 @@ use Rattle.poset.specs.Lists.{keep}
 use Rattle.poset.specs.Tree.{Kind, series, Tree, leaf, node, Forest, last, more, leaves, forest_leaves}
 use Rattle.poset.proofs.Laws.{keep_yes, keep_not}
 use Rattle.relation.proofs.Lists.{keep_append}
-use Rattle.record.specs.Layout.{kind_bit, more_children}
+use Rattle.record.specs.Layout.{more_children}
 use Rattle.record.specs.Tokens.{tokens, forest_tokens, group_token, Small}
 use Rattle.record.proofs.Sizes.{small_left, small_right, groups_lt}
 use Rattle.record.proofs.Tokens.{tokens_length}
 use Rattle.record.proofs.Entries.{entry_padded}
 use Rattle.reader.specs.Nodes.{Listed}
 use Rattle.gangs.specs.Gangs.{gang_count}
-use Rattle.gangs.specs.Places.{Held, held, to_come, At, begins, ended, is_leaf, Written, Ready, AllNumbered}
-use Rattle.gangs.specs.declared.numbering.Place.{Place}
+use Rattle.gangs.specs.Places.{no_group, to_come, At, begins, ended, is_leaf, Written, Ready, AllNumbered}
+use Rattle.gangs.specs.declared.numbering.Numbering.{Numbering}
 
 -- the leaves among a tree's nodes
 
@@ -49,21 +49,24 @@ mutual
 
 module _ (t : Tree) (list : List ℕ) (count : ℕ) (l : Listed t list count) (jobs : List ℕ) where
   -- the node at i, and those after it
-  pub ready_node : (h : Held) (p : Place) (i : ℕ) (gangs hours : List ℕ) → i < count → (x : ℕ) → x ≡ get_or list i 0
-      → Ready t jobs h p (drop i (tokens t)) gangs hours → Ready t jobs h p (x ∷ drop (i + 1) (tokens t)) gangs hours
-  ready_node h p i gangs hours inside x is =
+  pub ready_node : (w : Numbering) (i : ℕ) → i < count → (x : ℕ) → x ≡ get_or list i 0
+      → Ready t jobs w (drop i (tokens t)) → Ready t jobs w (x ∷ drop (i + 1) (tokens t))
+  ready_node w i inside x is =
       let one : suc i ≡ i + 1 = omega arith in
       let here : get_or (tokens t) i 0 ≡ x =
       ap (λ (xs : List ℕ). get_or xs i 0) (sym l.these) ∙ get_or-take count list i 0 inside ∙ sym is in
-      subst (λ (xs : List ℕ). Ready t jobs h p xs gangs hours)
+      subst (λ (xs : List ℕ). Ready t jobs w xs)
       (drop-cons (tokens t) i 0 (omega (arith, l.number)) ∙ ap (λ (y : ℕ). y ∷ drop (suc i) (tokens t)) here
       ∙ ap (λ (n : ℕ). x ∷ drop n (tokens t)) one)
 
   -- the whole tree begins, and nothing is written
   pub ready_first
-      : Ready t jobs (held (replicate 128 0) (replicate 128 0) (replicate 128 0)) (record { depth = 0; shape = 0; at = 0; end = 0 }) (drop 0 (tokens t))
-      (replicate 128 0) (replicate 128 0)
-  unfolding kind_bit flat_map
+      : Ready t jobs (record {
+        groups = record { present = no_group; depth = 0; around = replicate 128 no_group };
+        gangs = replicate 128 0;
+        hours = replicate 128 0;
+      }) (drop 0 (tokens t))
+  unfolding flat_map
   ready_first =
       record {
         small = l.small;
@@ -72,13 +75,10 @@ module _ (t : Tree) (list : List ℕ) (count : ℕ) (l : Listed t list count) (j
             (record {
               group =
                   record {
-                    sized = record { shapes_size = refl; firsts_size = refl; ends_size = refl };
-                    stored = tt;
+                    sized = refl;
+                    held = tt;
                     depth_is = refl;
-                    few = omega arith;
-                    shape_is = refl;
-                    at_is = refl;
-                    end_is = refl;
+                    present = record { kind_is = refl; coming_is = refl; at_is = refl; end_is = refl };
                     shallow = omega arith;
                   };
               numbers = record { once = l.once; small = l.small; each = λ u i. omega arith };
@@ -99,14 +99,14 @@ module _ (t : Tree) (list : List ℕ) (count : ℕ) (l : Listed t list count) (j
       }
 
   -- all nodes are taken
-  pub ready_last : (h : Held) (p : Place) (i : ℕ) (gangs hours : List ℕ) → count ≤ i → Ready t jobs h p (drop i (tokens t)) gangs hours
-      → (c : ℕ) → c ≡ p.end → AllNumbered t jobs c gangs hours
-  ready_last h p i gangs hours past r c is =
-      record { count_is = is ∙ go r.at; written = subst (λ (xs : List ℕ). Written t jobs xs gangs hours) none r.written }
+  pub ready_last : (w : Numbering) (i : ℕ) → count ≤ i → Ready t jobs w (drop i (tokens t))
+      → AllNumbered t jobs w.groups.present.end w.gangs w.hours
+  ready_last w i past r =
+      record { count_is = go r.at; written = subst (λ (xs : List ℕ). Written t jobs xs w.gangs w.hours) none r.written }
     where
       none : drop i (tokens t) ≡ []
       none = drop_of_length-le (tokens t) {i = i} (omega (arith, l.number))
 
-      go : At t h p (drop i (tokens t)) → p.end ≡ gang_count t
+      go : At t w.groups (drop i (tokens t)) → w.groups.present.end ≡ gang_count t
       go (begins s o os b e) = absurd (omega (arith, ap length (sym none ∙ e), length-append (tokens s) (to_come (o ∷ os)), tokens_length s, groups_lt s))
       go (ended end e) = end

@@ -1,5 +1,5 @@
 -- One node more.
-use Prim.Native.Nat.{ℕ, ◌+◌, ◌*◌, ◌^◌, ◌≤◌, ◌<◌, max}
+use Prim.Native.Nat.{ℕ, ◌+◌, ◌*◌, ◌%◌, ◌^◌, ◌≤◌, ◌<◌, max}
 use mathlib.Core.Path.{◌≡◌, refl, sym, ap, subst, ◌∙◌}
 use mathlib.Core.List.Memᴰ
 use mathlib.Core.List.{List, [], ◌∷◌, ◌++◌, flat_map, append_assoc, Memᴰ}
@@ -11,50 +11,52 @@ use lib.Dec.{eqb}
 use lib.ListN.{length, get_or, set, length-append, length-set}
 use lib.Seq.{get_or-set_same, get_or-set_other}
 use Rattle.poset.specs.Lists.{keep, sum}
-use Rattle.poset.specs.Tree.{Kind, Tree, leaf, node, Forest, leaves}
+use Rattle.poset.specs.Tree.{Kind, series, parallel, Tree, leaf, node, Forest, leaves}
 use Rattle.poset.proofs.Laws.{decided, clash, eqb-true, eqb_same, keep_yes, keep_not}
 use Rattle.poset.proofs.Sums.{sum_append}
 use Rattle.record.specs.Bits.{AllBelow}
-use Rattle.record.specs.Layout.{hours_bits, most_hours, hours_of, more_children}
+use Rattle.record.specs.Layout.{hours_bits, kind_bit, most_hours, hours_of, more_children}
 use Rattle.record.specs.Tokens.{group_token, tokens, forest_tokens, Small}
 use Rattle.record.proofs.Entries.{hours_most}
 use Rattle.record.proofs.Sizes.{kind_below}
 use Rattle.reader.proofs.Pending.{trees_tokens}
 use Rattle.gangs.specs.Gangs.{gang}
-use Rattle.gangs.specs.Places.{Open, Held, held, to_come, Done, Begun, At, begins, ended, is_leaf, load_of, Written, Ready}
-use Rattle.gangs.specs.declared.numbering.Place.{Place}
+use Rattle.gangs.specs.Places.{Open, kind_of, to_come, Done, Begun, At, begins, ended, is_leaf, load_of, Written, Ready}
+use Rattle.gangs.specs.declared.numbering.Group.{Group}
+use Rattle.gangs.specs.declared.numbering.Groups.{Groups}
+use Rattle.gangs.specs.declared.numbering.Numbering.{Numbering}
 use Rattle.gangs.proofs.Fewest.{gang_below, count_short, loads_most}
 use Rattle.gangs.proofs.Placing.{leaf_done, room, within, few_children, group_begins}
 
 -- the tree that begins, by its first node
 
-pub record LeafAt (t : Tree) (h : Held) (p : Place) (token : ℕ) (xs : List ℕ) : Type 0 where
+pub record LeafAt (t : Tree) (w : Groups) (token : ℕ) (xs : List ℕ) : Type 0 where
   pub group : Open
   pub around : List Open
-  pub begun : Begun t h p (leaf token) group around
+  pub begun : Begun t w (leaf token) group around
   pub later : to_come (group ∷ around) ≡ xs
 
-pub record GroupAt (t : Tree) (h : Held) (p : Place) (token : ℕ) (xs : List ℕ) : Type 0 where
+pub record GroupAt (t : Tree) (w : Groups) (token : ℕ) (xs : List ℕ) : Type 0 where
   pub kind : Kind
   pub first : Tree
   pub others : Forest
   pub group : Open
   pub around : List Open
-  pub begun : Begun t h p (node kind first others) group around
+  pub begun : Begun t w (node kind first others) group around
   pub token_is : token ≡ group_token kind (more_children others)
   pub later : (tokens first ++ forest_tokens others) ++ to_come (group ∷ around) ≡ xs
 
-module _ (t : Tree) (h : Held) (p : Place) (token : ℕ) (xs : List ℕ) where
-  at_leaf : token < 256 → At t h p (token ∷ xs) → LeafAt t h p token xs
+module _ (t : Tree) (w : Groups) (token : ℕ) (xs : List ℕ) where
+  at_leaf : token < 256 → At t w (token ∷ xs) → LeafAt t w token xs
   at_leaf low (begins (leaf j) o os b e) =
       let same : j ≡ token = cc in
-      record { group = o; around = os; begun = subst (λ (x : ℕ). Begun t h p (leaf x) o os) same b; later = cc }
+      record { group = o; around = os; begun = subst (λ (x : ℕ). Begun t w (leaf x) o os) same b; later = cc }
   at_leaf low (begins (node k s f) o os b e) =
       let same : token ≡ group_token k (more_children f) = cc in
       absurd (omega arith)
   at_leaf low (ended m e) = absurd (omega (arith, ap length e))
 
-  at_group : 256 ≤ token → At t h p (token ∷ xs) → GroupAt t h p token xs
+  at_group : 256 ≤ token → At t w (token ∷ xs) → GroupAt t w token xs
   unfolding leaves
   at_group high (begins (leaf j) o os b e) =
       let same : j ≡ token = cc in
@@ -151,70 +153,89 @@ module _ (t : Tree) (jobs : List ℕ) (low : AllBelow (2 ^ hours_bits) jobs) (sm
 
 -- a node is taken
 
-module _ (t : Tree) (jobs : List ℕ) (low : AllBelow (2 ^ hours_bits) jobs) (h : Held) (p : Place) (token : ℕ) (xs gangs hours : List ℕ)
-    (ready : Ready t jobs h p (token ∷ xs) gangs hours) where
+-- the kind of a group, by its token
+abbrev pub IsKind : ℕ → Kind → Type 0
+IsKind token series = token < 384
+IsKind token parallel = 384 ≤ token
+
+kind_is : (token : ℕ) (k j : Kind) (m : ℕ) → m < 128 → token ≡ group_token k m → IsKind token j → j ≡ k
+unfolding kind_bit
+kind_is token series series m few e i = refl
+kind_is token series parallel m few e i = absurd (omega arith)
+kind_is token parallel series m few e i = absurd (omega arith)
+kind_is token parallel parallel m few e i = refl
+
+module _ (t : Tree) (jobs : List ℕ) (low : AllBelow (2 ^ hours_bits) jobs) (w : Numbering) (token : ℕ) (xs : List ℕ)
+    (ready : Ready t jobs w (token ∷ xs)) where
+  abbrev at : ℕ
+  at = w.groups.present.at
+
   module _ (l : token < 256) where
-    pub leaf_at : LeafAt t h p token xs
-    leaf_at = at_leaf t h p token xs l ready.at
+    leaf_at : LeafAt t w.groups token xs
+    leaf_at = at_leaf t w.groups token xs l ready.at
 
     pub job_low : token < 128
     unfolding leaves
     job_low = leaf_at.begun.numbers.small.0 token (Memᴰ.head refl)
 
-    gang_is : p.at ≡ gang t token
+    gang_is : at ≡ gang t token
     unfolding gang leaves
-    gang_is = omega (arith, leaf_at.begun.numbers.each token (Memᴰ.head refl), leaf_at.begun.group.at_is)
+    gang_is = omega (arith, leaf_at.begun.numbers.each token (Memᴰ.head refl), leaf_at.begun.group.present.at_is)
 
-    pub gang_low : p.at < 128
+    pub gang_low : at < 128
     gang_low = omega (arith, gang_is, gang_below t token, count_short t, ready.small.1)
 
-    pub hours_low : get_or hours p.at 0 + get_or jobs token 0 ≤ most_hours * 128
-    hours_low = hours_fit t jobs low ready.small token xs gangs hours ready.written job_low p.at
+    pub hours_low : get_or w.hours at 0 + get_or jobs token 0 ≤ most_hours * 128
+    hours_low = hours_fit t jobs low ready.small token xs w.gangs w.hours ready.written job_low at
 
-    pub done : (r : Place) → r.depth ≡ p.depth → r.shape ≡ p.shape → r.at ≡ p.at → r.end ≡ max p.end (p.at + 1)
-        → (o : Open) × Done t h r o leaf_at.around × (to_come (o ∷ leaf_at.around) ≡ xs)
+    pub done : (r : Group) → r.kind ≡ w.groups.present.kind → r.coming ≡ w.groups.present.coming → r.at ≡ at → r.end ≡ max w.groups.present.end (at + 1)
+        → (o : Open) × (os : List Open) × Done t (record { present = r; depth = w.groups.depth; around = w.groups.around }) o os × (to_come (o ∷ os) ≡ xs)
     unfolding flat_map
-    done r depth shape at end =
+    done r kind coming first end =
         let b = leaf_at in
         let o = b.group in (
           record { kind = o.kind; at = o.at; end = max o.end (o.at + 1); rest = o.rest },
-          leaf_done t h p token o b.around b.begun r depth shape at end,
+          b.around,
+          leaf_done t w.groups token o b.around b.begun r kind coming first end,
           b.later,
         )
 
-    pub leaf_taken : (r : Place) → At t h r xs → Ready t jobs h r xs (set gangs token p.at) (set hours p.at (get_or hours p.at 0 + get_or jobs token 0))
-    leaf_taken r at =
+    pub leaf_taken : (v : Groups) → At t v xs
+        → Ready t jobs (record { groups = v; gangs = set w.gangs token at; hours = set w.hours at (get_or w.hours at 0 + get_or jobs token 0) }) xs
+    leaf_taken v here =
         record {
           small = ready.small;
-          at = at;
-          written = leaf_written t jobs low ready.small token xs gangs hours ready.written job_low p.at gang_is gang_low;
+          at = here;
+          written = leaf_written t jobs low ready.small token xs w.gangs w.hours ready.written job_low at gang_is gang_low;
         }
 
   module _ (l : 256 ≤ token) where
-    group_at : GroupAt t h p token xs
-    group_at = at_group t h p token xs l ready.at
+    group_at : GroupAt t w.groups token xs
+    group_at = at_group t w.groups token xs l ready.at
 
-    pub group_room : p.depth < 128
-    group_room = let b = group_at in room t h p b.kind b.first b.others b.group b.around b.begun
+    pub group_room : w.groups.depth < 128
+    group_room = let b = group_at in room t w.groups b.kind b.first b.others b.group b.around b.begun
 
-    pub token_low : token < 512
-    token_low =
-        let b = group_at in
-        omega (arith, b.token_is, kind_below b.kind, few_children t h p b.kind b.first b.others b.group b.around b.begun)
+    few : more_children group_at.others < 128
+    few = let b = group_at in few_children t w.groups b.kind b.first b.others b.group b.around b.begun
 
-    pub group_taken : (r : Place) → r.depth ≡ p.depth + 1 → r.shape + 256 ≡ token → r.at ≡ p.at → r.end ≡ p.at
-        → Ready t jobs (held (set h.shapes p.depth p.shape) (set h.firsts p.depth p.at) (set h.ends p.depth p.end)) r xs
-        gangs hours
+    pub group_taken : (r : Group) → IsKind token (kind_of r.kind) → r.coming ≡ token % 128 → r.at ≡ at → r.end ≡ at
+        → Ready t jobs (record {
+          groups = record { present = r; depth = w.groups.depth + 1; around = set w.groups.around w.groups.depth w.groups.present };
+          gangs = w.gangs;
+          hours = w.hours;
+        }) xs
     unfolding flat_map
-    group_taken r depth shape at end =
+    group_taken r kind coming first end =
         let b = group_at in
         let os = b.around in
+        let same : kind_of r.kind ≡ b.kind = kind_is token b.kind (kind_of r.kind) (more_children b.others) few b.token_is kind in
         record {
           small = ready.small;
           at =
-              begins b.first (within t h p b.kind b.first b.others b.group os b.begun) (b.group ∷ os)
-              (group_begins t h p b.kind b.first b.others b.group os b.begun r depth (shape ∙ b.token_is) at end)
+              begins b.first (within t w.groups b.kind b.first b.others b.group os b.begun) (b.group ∷ os)
+              (group_begins t w.groups b.kind b.first b.others b.group os b.begun r same (omega (arith, b.token_is, kind_below b.kind, few)) first end)
               (sym b.later ∙ append_assoc (tokens b.first) (forest_tokens b.others) (to_come (b.group ∷ os))
               ∙ ap (λ (l : List ℕ). tokens b.first ++ (l ++ to_come (b.group ∷ os))) (sym (trees_tokens b.others)));
-          written = group_written t jobs low ready.small token xs gangs hours ready.written l;
+          written = group_written t jobs low ready.small token xs w.gangs w.hours ready.written l;
         }

@@ -1,13 +1,17 @@
 -- Where a node stands: the groups around it, the gangs of what is to come, and what has been written.
 -- For inner contracts alone: who reads the promise of fewest_gangs need not believe it, but specs/Outcome.antt.
-use Rattle.std.specs.Prelude.{ℕ, ◌+◌, ◌*◌, ◌≤◌, ◌<◌, max, ◌≡◌, Bool, cond, eqb, ltb, length, get_or}
+use Rattle.std.specs.Prelude.{ℕ, ◌+◌, ◌≤◌, ◌<◌, max, ◌≡◌, Bool, cond, eqb, ltb, length, get_or}
 use mathlib.Core.List.{List, [], ◌∷◌, ◌++◌, flat_map, Memᴰ}
 use Rattle.poset.specs.Lists.{keep, sum, occurrences}
 use Rattle.poset.specs.Tree.{Kind, series, parallel, Tree, leaves, groups}
-use Rattle.record.specs.Layout.{kind_bit, hours_of}
+use Rattle.record.specs.Layout.{hours_of}
 use Rattle.record.specs.Tokens.{tokens, Small}
 use Rattle.gangs.specs.Gangs.{gang_count, gang}
-use Rattle.gangs.specs.declared.numbering.Place.{Place}
+use Rattle.gangs.specs.declared.numbering.Group.{Group}
+use Rattle.gangs.specs.declared.numbering.Groups.{Groups}
+use Rattle.gangs.specs.declared.numbering.Kind as declared
+use Rattle.gangs.specs.declared.numbering.Kind.TheVariants as kind
+use Rattle.gangs.specs.declared.numbering.Numbering.{Numbering}
 
 -- a group that is begun: its kind, the first gang of its present child, one past the last gang of its children so far, and the children to come
 pub record Open : Type 0 where
@@ -16,8 +20,10 @@ pub record Open : Type 0 where
   pub end : ℕ
   pub rest : List Tree
 
-abbrev pub shape_of : Open → ℕ
-shape_of o = 128 * kind_bit o.kind + length o.rest
+-- the kind by the tree's
+abbrev pub kind_of : declared.Kind → Kind
+kind_of kind.Chain = series
+kind_of kind.Side = parallel
 
 -- the first gang of the next child
 abbrev pub start_of : Kind → ℕ → ℕ → ℕ
@@ -41,29 +47,21 @@ abbrev pub Around : Tree → List Open → ℕ → Type 0
 Around t [] end = end ≡ gang_count t
 Around t (o ∷ os) end = Rest t o.kind (Around t os) o.at (max o.end end) o.rest
 
--- the lists that hold the groups around the present one
-pub record Held : Type 0 where
-  pub shapes : List ℕ
-  pub firsts : List ℕ
-  pub ends : List ℕ
+-- the group that the code has of an open one
+pub record Holds (g : Group) (o : Open) : Type 0 where
+  pub kind_is : kind_of g.kind ≡ o.kind
+  pub coming_is : g.coming ≡ length o.rest
+  pub at_is : g.at ≡ o.at
+  pub end_is : g.end ≡ o.end
 
-abbrev pub held : List ℕ → List ℕ → List ℕ → Held
-held shapes firsts ends = record { shapes = shapes; firsts = firsts; ends = ends }
+-- the group that is missing
+abbrev pub no_group : Group
+no_group = record { kind = kind.Chain; coming = 0; at = 0; end = 0 }
 
-pub record Sized (h : Held) : Type 0 where
-  pub shapes_size : length h.shapes ≡ 128
-  pub firsts_size : length h.firsts ≡ 128
-  pub ends_size : length h.ends ≡ 128
-
-pub record Stored (h : Held) (i : ℕ) (o : Open) : Type 0 where
-  pub few : length o.rest < 128
-  pub shape_is : get_or h.shapes i 0 ≡ shape_of o
-  pub first_is : get_or h.firsts i 0 ≡ o.at
-  pub end_is : get_or h.ends i 0 ≡ o.end
-
-abbrev pub AllStored : Held → List Open → Type 0
-AllStored h [] = Unit {0}
-AllStored h (o ∷ os) = Stored h (length os) o × AllStored h os
+-- the open groups, the innermost first, in a list that has the outermost first
+abbrev pub AllHeld : List Group → List Open → Type 0
+AllHeld gs [] = Unit {0}
+AllHeld gs (o ∷ os) = Holds (get_or gs (length os) no_group) o × AllHeld gs os
 
 -- the nodes and the groups of the trees to come
 abbrev pub to_come : List Open → List ℕ
@@ -72,47 +70,46 @@ to_come = flat_map (λ o. flat_map tokens o.rest)
 abbrev pub groups_to_come : List Open → ℕ
 groups_to_come = sum (λ o. sum groups o.rest)
 
--- the place is in the group o, and os are around it
-pub record InGroup (h : Held) (p : Place) (o : Open) (os : List Open) : Type 0 where
-  pub sized : Sized h
-  pub stored : AllStored h os
-  pub depth_is : p.depth ≡ length os
-  pub few : length o.rest < 128
-  pub shape_is : p.shape ≡ shape_of o
-  pub at_is : p.at ≡ o.at
-  pub end_is : p.end ≡ o.end
+-- the present group is o, and os are around it
+pub record InGroup (w : Groups) (o : Open) (os : List Open) : Type 0 where
+  pub sized : length w.around ≡ 128
+  pub held : AllHeld w.around os
+  pub depth_is : w.depth ≡ length os
+  pub present : Holds w.present o
   pub shallow : length os + groups_to_come (o ∷ os) < 128
 
 -- a child of the group o is done
-pub record Done (t : Tree) (h : Held) (p : Place) (o : Open) (os : List Open) : Type 0 where
-  pub group : InGroup h p o os
+pub record Done (t : Tree) (w : Groups) (o : Open) (os : List Open) : Type 0 where
+  pub group : InGroup w o os
   pub coming : Rest t o.kind (Around t os) o.at o.end o.rest
 
 -- the tree s begins, a child of the group o
-pub record Begun (t : Tree) (h : Held) (p : Place) (s : Tree) (o : Open) (os : List Open) : Type 0 where
-  pub group : InGroup h p o os
+pub record Begun (t : Tree) (w : Groups) (s : Tree) (o : Open) (os : List Open) : Type 0 where
+  pub group : InGroup w o os
   pub numbers : Numbers t o.at s
   pub coming : Around t (o ∷ os) (o.at + gang_count s)
   pub shallow : length os + groups s + groups_to_come (o ∷ os) < 128
 
--- the place, where these are the nodes to come
-pub data At (t : Tree) (h : Held) (p : Place) (xs : List ℕ) : Type 0 where
-  begins : (s : Tree) (o : Open) (os : List Open) → Begun t h p s o os → xs ≡ tokens s ++ to_come (o ∷ os) → At t h p xs
-  ended : p.end ≡ gang_count t → xs ≡ [] → At t h p xs
+-- the open groups, where these are the nodes to come
+pub data At (t : Tree) (w : Groups) (xs : List ℕ) : Type 0 where
+  begins : (s : Tree) (o : Open) (os : List Open) → Begun t w s o os → xs ≡ tokens s ++ to_come (o ∷ os) → At t w xs
+  ended : w.present.end ≡ gang_count t → xs ≡ [] → At t w xs
 
 -- the steps from place to place
 
-pub record NextChild (p r : Place) : Type 0 where
-  pub depth_is : r.depth ≡ p.depth
-  pub shape_is : r.shape + 1 ≡ p.shape
-  pub at_is : r.at ≡ cond (ltb p.shape 128) p.at p.end
-  pub end_is : r.end ≡ p.end
+pub record NextChild (g r : Group) : Type 0 where
+  pub kind_is : r.kind ≡ g.kind
+  pub coming_is : r.coming + 1 ≡ g.coming
+  pub at_is : r.at ≡ start_of (kind_of g.kind) g.at g.end
+  pub end_is : r.end ≡ g.end
 
-pub record Outer (h : Held) (p r : Place) : Type 0 where
-  pub depth_is : r.depth + 1 ≡ p.depth
-  pub shape_is : r.shape ≡ get_or h.shapes r.depth 0
-  pub at_is : r.at ≡ get_or h.firsts r.depth 0
-  pub end_is : r.end ≡ max (get_or h.ends r.depth 0) p.end
+pub record Outer (w v : Groups) : Type 0 where
+  pub depth_is : v.depth + 1 ≡ w.depth
+  pub around_is : v.around ≡ w.around
+  pub kind_is : v.present.kind ≡ (get_or w.around v.depth no_group).kind
+  pub coming_is : v.present.coming ≡ (get_or w.around v.depth no_group).coming
+  pub at_is : v.present.at ≡ (get_or w.around v.depth no_group).at
+  pub end_is : v.present.end ≡ max (get_or w.around v.depth no_group).end w.present.end
 
 -- what is written of the leaves ahead of the nodes to come: the gang of each job, and the hours of each gang
 
@@ -131,16 +128,15 @@ pub record Written (t : Tree) (jobs xs gangs hours : List ℕ) : Type 0 where
   pub others : (u : ℕ) → (Memᴰ u seen → ⊥) → get_or gangs u 0 ≡ 0
   pub loads : (g : ℕ) → get_or hours g 0 ≡ sum (load_of t jobs g) seen
 
--- where the nodes xs are to come: the place, and what is written
-pub record Ready (t : Tree) (jobs : List ℕ) (h : Held) (p : Place) (xs gangs hours : List ℕ) : Type 0 where
+-- where the nodes xs are to come: the open groups, and what is written
+pub record Ready (t : Tree) (jobs : List ℕ) (w : Numbering) (xs : List ℕ) : Type 0 where
   pub small : Small (leaves t)
-  pub at : At t h p xs
-  pub written : Written t jobs xs gangs hours
+  pub at : At t w.groups xs
+  pub written : Written t jobs xs w.gangs w.hours
 
 -- what is to hold after the node of a token: what held ahead of it
-abbrev pub Takes : (token : ℕ) (jobs : List ℕ) → Held → Place → (gangs hours : List ℕ) → Held → Place → (gangs hours : List ℕ) → Type 0
-Takes token jobs h p gangs hours h' p' gangs' hours' =
-    (t : Tree) (xs : List ℕ) → Ready t jobs h p (token ∷ xs) gangs hours → Ready t jobs h' p' xs gangs' hours'
+abbrev pub Takes : (token : ℕ) (jobs : List ℕ) → Numbering → Numbering → Type 0
+Takes token jobs w v = (t : Tree) (xs : List ℕ) → Ready t jobs w (token ∷ xs) → Ready t jobs v xs
 
 -- so many gangs, and all leaves are written
 pub record AllNumbered (t : Tree) (jobs : List ℕ) (count : ℕ) (gangs hours : List ℕ) : Type 0 where

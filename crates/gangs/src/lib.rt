@@ -31,15 +31,11 @@ pub fn fewest_gangs(bytes: &[u8]) -> GangPlan
             gangs: [0; 128],
         };
     }
-    let tokens = read.tokens;
-    let jobs = read.hours;
-    let mut gangs = [0u8; 128];
-    let mut hours = [0u32; 128];
-    let count = numbering::numbered(&tokens, read.count, &jobs, &mut gangs, &mut hours);
+    let numbering = numbering::Numbering::of(&read.tokens[..read.count], &read.hours);
     GangPlan {
         verdict: Verdict::Accepted(0, 0, 0),
-        count,
-        hours,
-        gangs,
+        count: numbering.count(),
+        hours: numbering.hours,
+        gangs: numbering.gangs,
     }
 }

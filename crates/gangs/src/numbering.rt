@@ -1,154 +1,144 @@
-//! Gang numbers, over a record's nodes in their order. A group that is begun and not yet left is open. The present one is a Place; the lists `shapes`,
-//! `firsts` and `ends` have those around it, the outermost first.
-ghost use Rattle.std.specs.Prelude.{ℕ, ◌%◌, ◌^◌, ◌≤◌, ◌<◌, ◌≡◌, cond, List, ◌∷◌, ltb, replicate};
+//! Gang numbers, over a record's nodes in their order. A group that is begun and not yet left is open.
+ghost use Rattle.std.specs.Prelude.{ℕ, ◌^◌, ◌<◌, ◌≤◌, ◌≡◌, List, ◌∷◌, length};
 ghost use Rattle.poset.specs.Tree.{Tree};
 ghost use Rattle.record.specs.Bits.{AllBelow};
 ghost use Rattle.record.specs.Layout.{hours_bits};
 ghost use Rattle.reader.specs.Nodes.{Listed};
-ghost use Rattle.gangs.specs.Places.{Open, held, to_come, Done, At, NextChild, Outer, Ready, Takes, AllNumbered};
+ghost use Rattle.gangs.specs.Places.{Open, NextChild, Outer, to_come, Done, At, Ready, Takes, AllNumbered};
 
-// The present group, and how many stand around it. shape: 128 for a side group, and its children to come after the present one. at: the first gang
-// of the present child. end: one past the last gang of the group so far.
+// How the children of a group stand: one after the other, or beside each other.
 #[derive(Clone, Copy)]
-pub struct Place {
-    pub depth: usize,
-    pub shape: u8,
-    pub at: u8,
-    pub end: u8,
+pub enum Kind {
+    Chain,
+    Side,
 }
 
-// The place after a child that is done: its group's next child, or that of the nearest group around it that has one to come.
-fn onward(place: Place, shapes: &[u8; 128], firsts: &[u8; 128], ends: &[u8; 128]) -> Place
-    requires { (t : Tree) × (o : Open) × (os : List Open) × Done t (held shapes.now firsts.now ends.now) place o os }
-    ensures { (t : Tree) (o : Open) (os : List Open) → Done t (held shapes.now firsts.now ends.now) place o os
-        → At t (held shapes.now firsts.now ends.now) result (to_come (o ∷ os)) }
-{
-    let mut here = place;
-    while here.shape % 128 == 0 {
-        if here.depth == 0 {
-            return here;
+// An open group: its kind, how many children are to come after the present one, the first gang of the present child, and one past the last gang of
+// the group so far.
+#[derive(Clone, Copy)]
+pub struct Group {
+    kind: Kind,
+    coming: u8,
+    at: u8,
+    end: u8,
+}
+
+impl Group {
+    // At its next child, whose gangs begin in a chain where those of the present one do, in a side group after the group's so far.
+    fn next_child(self) -> Group
+        requires { 0 < self.coming }
+        ensures { NextChild self result }
+    {
+        Group {
+            coming: self.coming - 1,
+            at: match self.kind {
+                Kind::Chain => self.at,
+                Kind::Side => self.end,
+            },
+            ..self
         }
-        let up = outer(here, shapes, firsts, ends);
-        here = up;
-    }
-    next_child(here)
-}
-
-// The group around one that is done.
-fn outer(place: Place, shapes: &[u8; 128], firsts: &[u8; 128], ends: &[u8; 128]) -> Place
-    requires { (0 < place.depth) × (place.depth ≤ 128) }
-    ensures { Outer (held shapes.now firsts.now ends.now) place result }
-{
-    let depth = place.depth - 1;
-    Place {
-        depth: depth,
-        shape: shapes[depth],
-        at: firsts[depth],
-        end: ends[depth].max(place.end),
     }
 }
 
-// The first gang of the next child: in a chain that of the present one again, in a side group the one after the group's so far.
-fn next_gang(place: Place) -> u8
-    ensures { result ≡ cond (ltb place.shape 128) place.at place.end }
-{
-    if place.shape < 128 {
-        return place.at;
-    }
-    place.end
+// The open groups: the present one, how many stand around it, and these, the outermost first.
+#[derive(Clone, Copy)]
+pub struct Groups {
+    present: Group,
+    depth: usize,
+    around: [Group; 128],
 }
 
-fn next_child(place: Place) -> Place
-    requires { 0 < place.shape % 128 }
-    ensures { NextChild place result }
-{
-    Place {
-        depth: place.depth,
-        shape: place.shape - 1,
-        at: next_gang(place),
-        end: place.end,
+impl Groups {
+    // Out of the present group, which is done, into the one around it.
+    fn leave(&mut self)
+        requires { (0 < self.old.depth) × (self.old.depth ≤ 128) }
+        ensures { Outer self.old self.new }
+    {
+        let end = self.present.end;
+        self.depth -= 1;
+        self.present = self.around[self.depth];
+        self.present.end = self.present.end.max(end);
+    }
+
+    // On to the next child of the present group, or of the nearest around it that has one to come.
+    fn go_on(&mut self)
+        requires { (t : Tree) × (o : Open) × (os : List Open) × Done t self.old o os }
+        ensures { (t : Tree) (o : Open) (os : List Open) → Done t self.old o os → At t self.new (to_come (o ∷ os)) }
+    {
+        while self.present.coming == 0 {
+            if self.depth == 0 {
+                return;
+            }
+            self.leave();
+        }
+        self.present = self.present.next_child();
     }
 }
 
-// One node more, by its token: a leaf's job gets the gang of its place, a group is opened.
-fn taken(
-    token: usize,
-    jobs: &[u16; 128],
-    place: Place,
-    shapes: &mut [u8; 128],
-    firsts: &mut [u8; 128],
-    ends: &mut [u8; 128],
-    gangs: &mut [u8; 128],
-    hours: &mut [u32; 128],
-) -> Place
-    requires { AllBelow (2 ^ hours_bits) jobs.now × ((t : Tree) × (xs : List ℕ)
-        × Ready t jobs.now (held shapes.old firsts.old ends.old) place (token ∷ xs) gangs.old hours.old) }
-    ensures { Takes token jobs.now
-        (held shapes.old firsts.old ends.old) place gangs.old hours.old
-        (held shapes.new firsts.new ends.new) result gangs.new hours.new }
-{
-    if token < 256 {
-        gangs[token] = place.at;
-        let g = usize::from(place.at);
-        hours[g] = hours[g] + u32::from(jobs[token]);
-        let done = Place {
-            depth: place.depth,
-            shape: place.shape,
-            at: place.at,
-            end: place.end.max(place.at + 1),
+// The open groups, and what is written of the jobs so far: the gang of each job, and the hours of each gang.
+#[derive(Clone, Copy)]
+pub struct Numbering {
+    groups: Groups,
+    pub gangs: [u8; 128],
+    pub hours: [u32; 128],
+}
+
+impl Numbering {
+    // One node more, by its token: a leaf's job gets the gang of its place, a group is opened.
+    fn take(&mut self, token: usize, jobs: &[u16; 128])
+        requires { AllBelow (2 ^ hours_bits) jobs.now × ((t : Tree) × (xs : List ℕ) × Ready t jobs.now self.old (token ∷ xs)) }
+        ensures { Takes token jobs.now self.old self.new }
+    {
+        let at = self.groups.present.at;
+        if token < 256 {
+            self.gangs[token] = at;
+            self.hours[usize::from(at)] += u32::from(jobs[token]);
+            self.groups.present.end = self.groups.present.end.max(at + 1);
+            self.groups.go_on();
+            return;
+        }
+        self.groups.around[self.groups.depth] = self.groups.present;
+        self.groups.depth += 1;
+        self.groups.present = Group {
+            kind: if token < 384 { Kind::Chain } else { Kind::Side },
+            coming: (token % 128) as u8,
+            at,
+            end: at,
         };
-        return onward(done, shapes, firsts, ends);
     }
-    let depth = place.depth;
-    shapes[depth] = place.shape;
-    firsts[depth] = place.at;
-    ends[depth] = place.end;
-    Place {
-        depth: depth + 1,
-        shape: (token - 256) as u8,
-        at: place.at,
-        end: place.at,
-    }
-}
 
-// The gang of each job and the hours of each gang, into lists of zeros, of the tree whose nodes these are; and how many gangs.
-pub fn numbered(
-    tokens: &[u16; record::NODE_ROOM],
-    count: usize,
-    jobs: &[u16; 128],
-    gangs: &mut [u8; 128],
-    hours: &mut [u32; 128],
-) -> usize
-    requires { AllBelow (2 ^ hours_bits) jobs.now × (gangs.old ≡ replicate 128 0) × (hours.old ≡ replicate 128 0)
-        × ((t : Tree) × Listed t tokens.now count) }
-    ensures { (t : Tree) → Listed t tokens.now count
-        → AllNumbered t jobs.now result gangs.new hours.new }
-{
-    let mut shapes = [0u8; 128];
-    let mut firsts = [0u8; 128];
-    let mut ends = [0u8; 128];
-    // around the whole tree: a chain with no child to come
-    let mut place = Place {
-        depth: 0,
-        shape: 0,
-        at: 0,
-        end: 0,
-    };
-    let mut i = 0;
-    while i < count {
-        let token = usize::from(tokens[i]);
-        let on = taken(
-            token,
-            jobs,
-            place,
-            &mut shapes,
-            &mut firsts,
-            &mut ends,
-            gangs,
-            hours,
-        );
-        place = on;
-        i += 1;
+    // Of the tree whose nodes these are.
+    pub fn of(nodes: &[u16], jobs: &[u16; 128]) -> Numbering
+        requires { AllBelow (2 ^ hours_bits) jobs.now × ((t : Tree) × Listed t nodes.now (length nodes.now)) }
+        ensures { (t : Tree) → Listed t nodes.now (length nodes.now)
+            → AllNumbered t jobs.now result.groups.present.end result.gangs result.hours }
+    {
+        // around the whole tree: a chain with no child to come
+        let whole = Group {
+            kind: Kind::Chain,
+            coming: 0,
+            at: 0,
+            end: 0,
+        };
+        let mut numbering = Numbering {
+            groups: Groups {
+                present: whole,
+                depth: 0,
+                around: [whole; 128],
+            },
+            gangs: [0; 128],
+            hours: [0; 128],
+        };
+        for token in nodes {
+            numbering.take(usize::from(*token), jobs);
+        }
+        numbering
     }
-    usize::from(place.end)
+
+    // How many gangs there are.
+    pub fn count(&self) -> usize
+        ensures { result ≡ self.now.groups.present.end }
+    {
+        usize::from(self.groups.present.end)
+    }
 }
