@@ -2,14 +2,13 @@
 use Prim.Native.Nat.{ℕ, ◌*◌, ◌≤◌, ◌<◌}
 use mathlib.Core.Path.{◌≡◌, refl, sym, ap, ◌∙◌}
 use mathlib.Core.List.{List, []}
-use mathlib.Core.Bool.{true, false, ◌&&◌}
-use Rattle.std.specs.Prelude.{Option, None, Some}
+use mathlib.Core.Bool.{◌&&◌}
+use Rattle.std.specs.Prelude.{Option, None, Some, option_map}
 use lib.ListN.{length, take}
 use Rattle.poset.specs.Areas.{overlay, padded, arc_bytes}
 use Rattle.poset.specs.Lists.{occurrences, ahead_in}
 use Rattle.poset.specs.Order.{Rel, Strict, covers, pairs_of}
 use Rattle.poset.specs.Tree.{Tree, leaves, reversed, groups}
-use Rattle.poset.proofs.Laws.{clash}
 use Rattle.relation.specs.Table.{holds, Inside}
 use Rattle.record.specs.Bits.{AllBelow}
 use Rattle.record.specs.Layout.{IsRecord}
@@ -36,34 +35,36 @@ pub record Decoded (bytes : List ℕ) (x : Reading) : Type 0 where
   pub reverse_is : x.reverse ≡ padded (reversed tree)
   pub hours_is : x.hours ≡ padded hours
 
+pub gives_11 : (bytes area : List ℕ) → None ≡ option_map reading (decode bytes)
+    → Gives (record_outcome (length area) bytes) [] area (refusal verdict.NoRecord) [] area
+unfolding record_outcome
+gives_11 bytes area reads = go (decode bytes) refl reads
+  where
+    go : (o : Option (ℕ × Tree × List ℕ)) → decode bytes ≡ o → None ≡ option_map reading o
+        → Gives (record_outcome (length area) bytes) [] area (refusal verdict.NoRecord) [] area
+    go None e h = gives_refusal verdict.NoRecord (record_outcome (length area) bytes) [] area 11 0 0 0 0 (rw (record_outcome, e)) refl
+    go (Some y) e h = absurd (cc)
+
 module _ (bytes : List ℕ) (x : Reading) where
-  pub decoded : AllBelow 256 bytes → x ≡ reading (decode bytes) → x.ok ≡ true → Decoded bytes x
-  decoded small reads ok = go (decode bytes) refl reads
+  pub decoded : AllBelow 256 bytes → Some x ≡ option_map reading (decode bytes) → Decoded bytes x
+  decoded small reads = go (decode bytes) refl reads
     where
-      go : (o : Option (ℕ × Tree × List ℕ)) → decode bytes ≡ o → x ≡ reading o → Decoded bytes x
-      go None e h = absurd (clash ok (ap (λ (r : Reading). r.ok) h))
+      go : (o : Option (ℕ × Tree × List ℕ)) → decode bytes ≡ o → Some x ≡ option_map reading o → Decoded bytes x
+      go None e h = absurd (cc)
       go (Some (n, t, hours)) e h =
-          let same : decode bytes ≡ Some (x.count, t, hours) = e ∙ ap (λ (k : ℕ). Some (k, t, hours)) (sym (ap (λ (r : Reading). r.count) h)) in
+          let same : x ≡ reading (n, t, hours) = cc in
+          let decodes : decode bytes ≡ Some (x.count, t, hours) =
+          e ∙ ap (λ (k : ℕ). Some (k, t, hours)) (sym (ap (λ (r : Reading). r.count) same)) in
           record {
             tree = t;
             hours = hours;
-            decodes = same;
-            spells = layout_decode bytes x.count t hours small same;
-            groups_are = ap (λ (r : Reading). r.groups) h;
-            forward_is = ap (λ (r : Reading). r.forward) h;
-            reverse_is = ap (λ (r : Reading). r.reverse) h;
-            hours_is = ap (λ (r : Reading). r.hours) h;
+            decodes = decodes;
+            spells = layout_decode bytes x.count t hours small decodes;
+            groups_are = ap (λ (r : Reading). r.groups) same;
+            forward_is = ap (λ (r : Reading). r.forward) same;
+            reverse_is = ap (λ (r : Reading). r.reverse) same;
+            hours_is = ap (λ (r : Reading). r.hours) same;
           }
-
-  pub gives_11 : (area : List ℕ) → x ≡ reading (decode bytes) → x.ok ≡ false
-      → Gives (record_outcome (length area) bytes) [] area (refusal verdict.NoRecord) [] area
-  unfolding record_outcome
-  gives_11 area reads bad = go (decode bytes) refl reads
-    where
-      go : (o : Option (ℕ × Tree × List ℕ)) → decode bytes ≡ o → x ≡ reading o
-          → Gives (record_outcome (length area) bytes) [] area (refusal verdict.NoRecord) [] area
-      go None e h = gives_refusal verdict.NoRecord (record_outcome (length area) bytes) [] area 11 0 0 0 0 (rw (record_outcome, e)) refl
-      go (Some y) e h = absurd (clash (ap (λ (r : Reading). r.ok) h) bad)
 
   module _ (d : Decoded bytes x) where
     pub ready : ((x.count ≤ 128) × (length x.forward ≡ 128) × (length x.reverse ≡ 128))

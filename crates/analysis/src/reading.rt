@@ -12,10 +12,9 @@ pub fn of_bytes(bytes: &[u8], area: &mut [u8]) -> Analysis
     ensures { Gives (record_outcome (length area.old) bytes.now)
         [] area.old result [] area.new }
 {
-    let read = reader::read_record(bytes);
-    if !read.ok {
+    let Some(read) = reader::read_record(bytes) else {
         return refused(Verdict::NoRecord);
-    }
+    };
     let forward = read.forward;
     let reverse = read.reverse;
     let hours = read.hours;

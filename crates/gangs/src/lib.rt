@@ -22,15 +22,14 @@ pub struct GangPlan {
 pub fn fewest_gangs(bytes: &[u8]) -> GangPlan
     ensures { Shows (gang_outcome bytes.now) result }
 {
-    let read = reader::read_nodes(bytes);
-    if !read.ok {
+    let Some(read) = reader::read_nodes(bytes) else {
         return GangPlan {
             verdict: Verdict::NoRecord,
             count: 0,
             hours: [0; 128],
             gangs: [0; 128],
         };
-    }
+    };
     let numbering = numbering::Numbering::of(&read.tokens[..read.count], &read.hours);
     GangPlan {
         verdict: Verdict::Accepted(0, 0, 0),

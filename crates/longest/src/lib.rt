@@ -23,15 +23,14 @@ pub struct LongestRun {
 pub fn longest_run(bytes: &[u8]) -> LongestRun
     ensures { Shows (run_outcome bytes.now) result }
 {
-    let read = reader::read_nodes(bytes);
-    if !read.ok {
+    let Some(read) = reader::read_nodes(bytes) else {
         return LongestRun {
             verdict: Verdict::NoRecord,
             total: 0,
             count: 0,
             jobs: [0; 128],
         };
-    }
+    };
     let stack = stack::Stack::of(&read.tokens[..read.count], &read.hours);
     let run = stack.run();
     let shown = showing::shown(&stack.next, run.first, run.last);

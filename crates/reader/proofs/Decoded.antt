@@ -2,14 +2,12 @@
 use Prim.Native.Nat.{ℕ, ◌-◌, ◌^◌, ◌≤◌}
 use mathlib.Core.Path.{◌≡◌, refl, sym, ap, subst, ◌∙◌, fun_ext}
 use mathlib.Core.List.{List}
-use mathlib.Core.Bool.{true, false}
-use Rattle.std.specs.Prelude.{Option, None, Some}
+use Rattle.std.specs.Prelude.{Option, None, Some, option_map}
 use lib.ListN.{length, take, replicate}
 use lib.Seq.{take_at}
 use Rattle.poset.specs.Areas.{padded}
 use Rattle.poset.specs.Lists.{occurrences}
 use Rattle.poset.specs.Tree.{Tree, leaves}
-use Rattle.poset.proofs.Laws.{clash}
 use Rattle.poset.proofs.Meaning.{spans_holds, once_count}
 use Rattle.record.specs.Bits.{AllBelow}
 use Rattle.record.specs.Layout.{hours_bits, hours_of, IsRecord}
@@ -34,31 +32,31 @@ pub record Decoded (bytes : List ℕ) (x : NodeList) : Type 0 where
   pub tokens_are : x.tokens ≡ listing (tokens tree)
   pub hours_are : x.hours ≡ padded hours
 
-module _ (bytes : List ℕ) (x : NodeList) (reads : x ≡ nodes (decode bytes)) where
-  pub decoded : AllBelow 256 bytes → x.ok ≡ true → Decoded bytes x
-  decoded small ok = go (decode bytes) refl reads
-    where
-      go : (o : Option (ℕ × Tree × List ℕ)) → decode bytes ≡ o → x ≡ nodes o → Decoded bytes x
-      go None e h = absurd (clash ok (ap (λ (r : NodeList). r.ok) h))
-      go (Some (n, t, hours)) e h =
-          record {
-            jobs = n;
-            tree = t;
-            hours = hours;
-            decodes = e;
-            spells = layout_decode bytes n t hours small e;
-            jobs_are = ap (λ (r : NodeList). r.jobs) h;
-            count_is = ap (λ (r : NodeList). r.count) h;
-            tokens_are = ap (λ (r : NodeList). r.tokens) h;
-            hours_are = ap (λ (r : NodeList). r.hours) h;
-          }
+pub decoded : {bytes : List ℕ} (x : NodeList) → Some x ≡ option_map nodes (decode bytes) → AllBelow 256 bytes → Decoded bytes x
+decoded {bytes} x reads small = go (decode bytes) refl reads
+  where
+    go : (o : Option (ℕ × Tree × List ℕ)) → decode bytes ≡ o → Some x ≡ option_map nodes o → Decoded bytes x
+    go None e h = absurd (cc)
+    go (Some (n, t, hours)) e h =
+        let same : x ≡ nodes (n, t, hours) = cc in
+        record {
+          jobs = n;
+          tree = t;
+          hours = hours;
+          decodes = e;
+          spells = layout_decode bytes n t hours small e;
+          jobs_are = ap (λ (r : NodeList). r.jobs) same;
+          count_is = ap (λ (r : NodeList). r.count) same;
+          tokens_are = ap (λ (r : NodeList). r.tokens) same;
+          hours_are = ap (λ (r : NodeList). r.hours) same;
+        }
 
-  pub undecoded : x.ok ≡ false → decode bytes ≡ None
-  undecoded bad = go (decode bytes) refl reads
-    where
-      go : (o : Option (ℕ × Tree × List ℕ)) → decode bytes ≡ o → x ≡ nodes o → decode bytes ≡ None
-      go None e h = e
-      go (Some y) e h = absurd (clash (ap (λ (r : NodeList). r.ok) h) bad)
+pub undecoded : (bytes : List ℕ) → None ≡ option_map nodes (decode bytes) → decode bytes ≡ None
+undecoded bytes reads = go (decode bytes) refl reads
+  where
+    go : (o : Option (ℕ × Tree × List ℕ)) → decode bytes ≡ o → None ≡ option_map nodes o → decode bytes ≡ None
+    go None e h = e
+    go (Some y) e h = absurd (cc)
 
 module _ {bytes : List ℕ} {x : NodeList} (d : Decoded bytes x) where
   -- the hours of each job, with zeros after them or without

@@ -2,7 +2,7 @@
 use Prim.Native.Nat.{ℕ, ◌+◌}
 use mathlib.Core.Path.{◌≡◌, sym, ap, ◌∙◌}
 use mathlib.Core.List.{List}
-use mathlib.Core.Bool.{true}
+use Rattle.std.specs.Prelude.{Some, option_map}
 use native.Mathlib.Omega.{arith}
 use lib.ListN.{length, take}
 use Rattle.poset.specs.Areas.{padded}
@@ -22,11 +22,11 @@ use Rattle.reader.specs.declared.parts.Part.{Part}
 
 module _ (bytes forward next hours : List ℕ) (p : Part) (t : Tree) (h : Holds bytes forward next hours p t) where
   pub gives_reading : (reverse : List ℕ) → reverse ≡ padded (walk next p.done p.first)
-      → record { ok = true; count = p.done; groups = p.groups; forward = forward; reverse = reverse; hours = hours } ≡ reading (decode bytes)
+      → Some (record { count = p.done; groups = p.groups; forward = forward; reverse = reverse; hours = hours }) ≡ option_map reading (decode bytes)
   gives_reading reverse e =
       let back = e ∙ ap padded h.back in
-      (λ i. record { ok = true; count = p.done; groups = h.inner i; forward = h.forth i; reverse = back i; hours = h.times i })
-      ∙ ap reading (sym h.decoded)
+      (λ i. Some (record { count = p.done; groups = h.inner i; forward = h.forth i; reverse = back i; hours = h.times i }))
+      ∙ ap (option_map reading) (sym h.decoded)
 
   module _ (small : AllBelow 256 bytes) where
     is : IsRecord bytes p.done t (take p.done hours)
@@ -39,6 +39,6 @@ module _ (bytes forward next hours : List ℕ) (p : Part) (t : Tree) (h : Holds 
     has_nodes = record { jobs = p.done; hours = take p.done hours; spelt = is; number = number }
 
     pub gives_nodes : (ts : List ℕ) → ts ≡ listing (tokens t)
-        → record { ok = true; jobs = p.done; count = p.done + p.groups; tokens = ts; hours = hours } ≡ nodes (decode bytes)
+        → Some (record { jobs = p.done; count = p.done + p.groups; tokens = ts; hours = hours }) ≡ option_map nodes (decode bytes)
     gives_nodes ts e =
-        (λ i. record { ok = true; jobs = p.done; count = number i; tokens = e i; hours = h.times i }) ∙ ap nodes (sym h.decoded)
+        (λ i. Some (record { jobs = p.done; count = number i; tokens = e i; hours = h.times i })) ∙ ap (option_map nodes) (sym h.decoded)

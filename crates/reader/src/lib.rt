@@ -8,8 +8,7 @@ mod listing;
 mod nodes;
 mod parts;
 
-ghost use Rattle.std.specs.Prelude.{◌≡◌, ◌≤◌};
-ghost use Rattle.std.specs.Prelude.{None};
+ghost use Rattle.std.specs.Prelude.{◌≡◌, ◌≤◌, option_map};
 ghost use Rattle.record.specs.Bits.{AllBelow};
 ghost use Rattle.record.specs.Decode.{decode};
 ghost use Rattle.reader.specs.Answer.{reading, nodes};
@@ -23,29 +22,14 @@ use nodes::{field, filled};
 use parts::{Part, refused};
 use record::{NODE_ROOM, RECORD_ROOM};
 
-// ok: whether the bytes are a record. Then the job count, the number of groups, the sequences and the hours of each job, whose
-// entries from the count on are 0; all 0 otherwise.
+// The job count, the number of groups, the sequences and the hours of each job, whose entries from the count on are 0.
 #[derive(Clone, Copy)]
 pub struct Reading {
-    pub ok: bool,
     pub count: usize,
     pub groups: usize,
     pub forward: [u8; 128],
     pub reverse: [u8; 128],
     pub hours: [u16; 128],
-}
-
-fn no_record() -> Reading
-    ensures { result ≡ reading None }
-{
-    Reading {
-        ok: false,
-        count: 0,
-        groups: 0,
-        forward: [0; 128],
-        reverse: [0; 128],
-        hours: [0; 128],
-    }
 }
 
 // The `count` jobs from `first` on, each followed by its next.
@@ -94,72 +78,56 @@ fn read_whole(
     part
 }
 
-// Reads a record: `bytes` is any slice.
-pub fn read_record(bytes: &[u8]) -> Reading
-    ensures { result ≡ reading (decode bytes.now) }
+// Reads a record, if the bytes are one.
+pub fn read_record(bytes: &[u8]) -> Option<Reading>
+    ensures { result ≡ option_map reading (decode bytes.now) }
 {
     let mut forward = [0u8; 128];
     let mut next = [0u8; 128];
     let mut hours = [0u16; 128];
     let part = read_whole(bytes, &mut forward, &mut next, &mut hours);
     if !part.ok {
-        return no_record();
+        return None;
     }
     let count = part.done as usize;
     let reverse = in_turn(&next, part.first as usize, count);
-    Reading {
-        ok: true,
+    Some(Reading {
         count: count,
         groups: part.groups as usize,
         forward: forward,
         reverse: reverse,
         hours: hours,
-    }
+    })
 }
 
-// ok: whether the bytes are a record. Then the job count, how many nodes its tree has, these in their order, node before children,
-// as tokens (a leaf is its job; a group is 256, 128 for a side group, and its children minus 1), and the hours of each job; the entries after
-// them are 0, and all are 0 otherwise.
+// The job count, how many nodes the tree has, these in their order, node before children, as tokens (a leaf is its job; a group is 256,
+// 128 for a side group, and its children minus 1), and the hours of each job; the entries after them are 0.
 #[derive(Clone, Copy)]
 pub struct NodeList {
-    pub ok: bool,
     pub jobs: usize,
     pub count: usize,
     pub tokens: [u16; NODE_ROOM],
     pub hours: [u16; 128],
 }
 
-fn no_nodes() -> NodeList
-    ensures { result ≡ nodes None }
-{
-    NodeList {
-        ok: false,
-        jobs: 0,
-        count: 0,
-        tokens: [0; NODE_ROOM],
-        hours: [0; 128],
-    }
-}
-
-// Reads the nodes of a record: `bytes` is any slice.
-pub fn read_nodes(bytes: &[u8]) -> NodeList
-    ensures { result ≡ nodes (decode bytes.now) }
+// Reads the nodes of a record, if the bytes are one.
+pub fn read_nodes(bytes: &[u8]) -> Option<NodeList>
+    ensures { result ≡ option_map nodes (decode bytes.now) }
 {
     let mut forward = [0u8; 128];
     let mut next = [0u8; 128];
     let mut hours = [0u16; 128];
     let part = read_whole(bytes, &mut forward, &mut next, &mut hours);
     if !part.ok {
-        return no_nodes();
+        return None;
     }
     let jobs = part.done as usize;
     let count = jobs + part.groups as usize;
     let tokens = list_nodes(bytes, count);
-    NodeList {
-        ok: true,
+    Some(NodeList {
         jobs: jobs,
         count: count,
         tokens: tokens,
         hours: hours,
-    }
+    })
 }

@@ -2,6 +2,7 @@
 
 #![tactic(auto)]
 
+ghost use Rattle.std.specs.Prelude.{option_map};
 ghost use Rattle.record.specs.Decode.{decode};
 ghost use Rattle.reader.specs.Answer.{reading};
 ghost use Rattle.reader_bench.specs.Handed.{Handed};
@@ -19,9 +20,17 @@ pub struct Read {
 
 #[unsafe(no_mangle)]
 pub extern "C" fn reader_bench_read(bytes: &[u8]) -> Read
-    ensures { Handed (reading (decode bytes.now)) result }
+    ensures { Handed (option_map reading (decode bytes.now)) result }
 {
-    let read = reader::read_record(bytes);
+    let Some(read) = reader::read_record(bytes) else {
+        return Read {
+            count: 0,
+            groups: 0,
+            forward: [0; 128],
+            reverse: [0; 128],
+            hours: [0; 128],
+        };
+    };
     let forward = read.forward;
     let reverse = read.reverse;
     let hours = read.hours;

@@ -2,7 +2,6 @@
 use Prim.Native.Nat.{ℕ}
 use mathlib.Core.Path.{◌≡◌, refl}
 use mathlib.Core.List.{List, [], ◌∷◌, map}
-use Rattle.std.specs.Prelude.{option_and_then}
 use Rattle.poset.specs.Lists.{exists, keep, member, occurrences, up_from, below, only_if}
 use Rattle.poset.specs.Tree.{leaves, least, alternates, outranks, ahead, canonical}
 use Rattle.record.specs.Bits.{bits, bits_of}

@@ -36,10 +36,9 @@ pub fn reason_between(bytes: &[u8], first: u16, second: u16) -> Reason
 {
     let u = usize::from(first);
     let v = usize::from(second);
-    let read = reader::read_nodes(bytes);
-    if !read.ok {
+    let Some(read) = reader::read_nodes(bytes) else {
         return turned_away(Verdict::NoRecord);
-    }
+    };
     if u >= read.jobs || v >= read.jobs {
         return turned_away(Verdict::NoJob);
     }

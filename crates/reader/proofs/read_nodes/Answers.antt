@@ -1,6 +1,7 @@
 -- `read_nodes` meets its contract.
 use borrow.Author.Tests.{not-true, not-false}
-use mathlib.Core.Path.{sym, ap, ◌∙◌}
+use mathlib.Core.Path.{sym, ap}
+use Rattle.std.specs.Prelude.{option_map}
 use Rattle.reader.specs.Answer.{nodes}
 use Rattle.reader.proofs.Gives.{has_nodes, gives_nodes}
 use Rattle.reader.proofs.Whole.{slice_below}
@@ -8,7 +9,7 @@ use Rattle.reader.proofs.read_nodes.Goals as goal
 
 pub returns-then-not-part : goal.returns-then-not-part
 returns-then-not-part c =
-    c.no_nodes.ensures ∙ ap nodes (sym (c.read_whole-part.ensures.none (not-true _ c.if-not-part.true)))
+    sym (ap (option_map nodes) (c.read_whole-part.ensures.none (not-true _ c.if-not-part.true)))
 
 pub list_nodes-tokens-requires : goal.list_nodes-tokens-requires
 list_nodes-tokens-requires c =

@@ -1,5 +1,4 @@
 -- `reading::of_bytes` meets its contract: the tree that was decoded gives the order, and the room decides between 10 and acceptance.
-use borrow.Author.Tests.{not-true, not-false}
 use native.Mathlib.Omega.{arith}
 use Rattle.poset.specs.Order.{Strict}
 use Rattle.relation.specs.Table.{holds, Inside}
@@ -8,39 +7,35 @@ use Rattle.reader.proofs.Whole.{slice_below}
 use Rattle.analysis.proofs.Crossing.{gives_told}
 use Rattle.analysis.proofs.Taking.{count_few}
 use Rattle.analysis.proofs.Decoded.{Decoded, decoded, gives_11, ready, after_inside, after_strict, back_10, back_0}
-use Rattle.analysis.proofs.reading.of_bytes.Goals.{Else-not-read, After-order_of-after}
+use Rattle.analysis.proofs.reading.of_bytes.Goals.{In-Some, After-order_of-after}
 use Rattle.analysis.proofs.reading.of_bytes.Goals as goal
 
 -- the tree of the bytes, where they are a record
-read_tree_lem : (c : goal.Else-not-read) → Decoded c.args.bytes.now c.read_record-read.result
+read_tree_lem : (c : goal.In-Some) → Decoded c.args.bytes.now c.in-Some.read
 read_tree_lem c =
-    decoded _ _ (slice_below _ c.type_inv.bytes) c.read_record-read.ensures (not-false _ c.if-not-read.false)
+    decoded _ _ (slice_below _ c.type_inv.bytes) c.in-Some.ensures
 
 -- the order of the two sequences
-module _ (c : goal.After-order_of-after) (d : Decoded c.args.bytes.now c.read_record-read.result) where
-  order_inside : Inside c.read_record-read.result.count c.order_of-after.result
+module _ (c : goal.After-order_of-after) (d : Decoded c.args.bytes.now c.in-Some.read) where
+  order_inside : Inside c.in-Some.read.count c.order_of-after.result
   order_inside = after_inside _ _ d c.order_of-after.result c.order_of-after.ensures
 
-  order_strict : Strict c.read_record-read.result.count (holds c.order_of-after.result)
+  order_strict : Strict c.in-Some.read.count (holds c.order_of-after.result)
   order_strict = after_strict _ _ d c.order_of-after.result c.order_of-after.ensures
 
-pub returns-then-not-read : goal.returns-then-not-read
-returns-then-not-read c =
-    let b = c.args.bytes.now in
-    let ar = c.args.area.now in
-    let r = c.read_record-read in
-    gives_told c.refused.ensures
-    (gives_11 b r.result ar r.ensures (not-true _ c.if-not-read.true))
+pub returns-in_default : goal.returns-in_default
+returns-in_default c =
+    gives_told c.refused.ensures (gives_11 c.args.bytes.now c.args.area.now c.in_default.ensures)
 
 pub order_of-after-requires : goal.order_of-after-requires
 order_of-after-requires c =
-    let e = ready _ _ (read_tree_lem (goal.at.order_of-after-requires c).Else-not-read) in
+    let e = ready _ _ (read_tree_lem (goal.at.order_of-after-requires c).In-Some) in
     record { n_bound = e.0; all_below = e.1 }
 
 pub reduced-reduced-requires : goal.reduced-reduced-requires
 reduced-reduced-requires c =
     let p = goal.at.reduced-reduced-requires c in
-    let d = read_tree_lem p.Else-not-read in
+    let d = read_tree_lem p.In-Some in
     record {
       n_bound = d.spells.most;
       strict = order_strict p.After-order_of-after d;
@@ -50,7 +45,7 @@ reduced-reduced-requires c =
 pub pair_count-count-requires : goal.pair_count-count-requires
 pair_count-count-requires c =
     let p = goal.at.pair_count-count-requires c in
-    let d = read_tree_lem p.Else-not-read in
+    let d = read_tree_lem p.In-Some in
     record {
       n_bound = d.spells.most;
       inside = reduced_inside _ _ c.reduced-reduced.result (order_inside p.After-order_of-after d) c.reduced-reduced.ensures;
@@ -60,7 +55,7 @@ pub overflow_mul-count : goal.overflow_mul-count
 overflow_mul-count c =
     let red = c.reduced-reduced in
     let p = goal.at.overflow_mul-count c in
-    let d = read_tree_lem p.Else-not-read in
+    let d = read_tree_lem p.In-Some in
     record {
       fits = omega (
         arith,
@@ -74,14 +69,14 @@ returns-then-area-count c =
     let a = c.args in
     let red = c.reduced-reduced in
     gives_told c.refused-then-area-count.ensures
-    (back_10 a.bytes.now _ (read_tree_lem (goal.at.returns-then-area-count c).Else-not-read) c.order_of-after.result c.order_of-after.ensures
+    (back_10 a.bytes.now _ (read_tree_lem (goal.at.returns-then-area-count c).In-Some) c.order_of-after.result c.order_of-after.ensures
     red.result red.ensures c.pair_count-count.result c.pair_count-count.ensures a.area.now c.if-area-count.true)
 
 pub write_pairs-requires : goal.write_pairs-requires
 write_pairs-requires c =
     let red = c.reduced-reduced in
     let p = goal.at.write_pairs-requires c in
-    let d = read_tree_lem p.Else-not-read in
+    let d = read_tree_lem p.In-Some in
     record {
       n_bound = d.spells.most;
       inside = reduced_inside _ _ red.result (order_inside p.After-order_of-after d) red.ensures;
@@ -92,5 +87,5 @@ pub returns : goal.returns
 returns c =
     let a = c.args in
     let red = c.reduced-reduced in
-    back_0 a.bytes.now _ (read_tree_lem (goal.at.returns c).Else-not-read) c.order_of-after.result c.order_of-after.ensures red.result
+    back_0 a.bytes.now _ (read_tree_lem (goal.at.returns c).In-Some) c.order_of-after.result c.order_of-after.ensures red.result
     red.ensures c.pair_count-count.result c.pair_count-count.ensures a.area.now c.if-area-count.false _ c.write_pairs.ensures
