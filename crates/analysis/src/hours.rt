@@ -2,10 +2,9 @@
 ghost use Rattle.std.specs.Prelude.{ℕ, ◌≤◌, ◌≡◌, true, false, ltb, length};
 ghost use Rattle.std.specs.Prelude.{None, Some};
 ghost use Rattle.poset.specs.Areas.{padded};
-ghost use Rattle.relation.specs.Arcs.{place, found};
+ghost use Rattle.relation.specs.Arcs.{place};
 ghost use Rattle.record.specs.Layout.{most_hours};
 
-use relation::Found;
 
 // More hours than a job may have.
 fn large(hours: u16) -> bool
@@ -29,18 +28,18 @@ fn some_large(hours: &[u16]) -> bool
 }
 
 // The first job with more.
-pub fn first_large(hours: &[u16]) -> Found
-    ensures { found result ≡ place (ltb most_hours) hours.now }
+pub fn first_large(hours: &[u16]) -> Option<usize>
+    ensures { result ≡ place (ltb most_hours) hours.now }
 {
     if !some_large(hours) {
-        return Found::Nothing;
+        return None;
     }
     for i in 0..hours.len() {
         if large(hours[i]) {
-            return Found::At(i);
+            return Some(i);
         }
     }
-    Found::Nothing
+    None
 }
 
 // The hours with an entry for each of 128 jobs.

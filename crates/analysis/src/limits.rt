@@ -9,7 +9,7 @@ ghost use Rattle.analysis.specs.Outcome.{listed, timed, arc_outcome};
 ghost use Rattle.analysis.specs.Result.{Gives, rooms};
 
 use crate::{Analysis, Verdict, hours, order, refused};
-use relation::{Found, arcs};
+use relation::arcs;
 
 // Arcs that name jobs below n alone.
 fn of_named(list: &[u16], n: u16, hours: &[u16], bytes: &mut [u8], area: &mut [u8]) -> Analysis
@@ -21,8 +21,8 @@ fn of_named(list: &[u16], n: u16, hours: &[u16], bytes: &mut [u8], area: &mut [u
 {
     let own = arcs::first_loop(list);
     match own {
-        Found::At(i) => refused(Verdict::Loop(i)),
-        Found::Nothing => order::of_arcs(list, n as usize, hours, bytes, area),
+        Some(i) => refused(Verdict::Loop(i)),
+        None => order::of_arcs(list, n as usize, hours, bytes, area),
     }
 }
 
@@ -35,8 +35,8 @@ fn of_list(list: &[u16], n: u16, hours: &[u16], bytes: &mut [u8], area: &mut [u8
 {
     let far = arcs::first_outside(list, n);
     match far {
-        Found::At(i) => refused(Verdict::Outside(i)),
-        Found::Nothing => of_named(list, n, hours, bytes, area),
+        Some(i) => refused(Verdict::Outside(i)),
+        None => of_named(list, n, hours, bytes, area),
     }
 }
 
@@ -51,8 +51,8 @@ fn of_hours(list: &[u16], n: u16, hours: &[u16], bytes: &mut [u8], area: &mut [u
     }
     let large = hours::first_large(hours);
     match large {
-        Found::At(j) => refused(Verdict::HoursLarge(j)),
-        Found::Nothing => of_list(list, n, hours, bytes, area),
+        Some(j) => refused(Verdict::HoursLarge(j)),
+        None => of_list(list, n, hours, bytes, area),
     }
 }
 

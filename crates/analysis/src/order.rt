@@ -10,7 +10,7 @@ ghost use Rattle.analysis.specs.Result.{Gives, rooms, crossed_by};
 
 use crate::{Analysis, Verdict, areas, hours, refused};
 use relation::set::JobSet;
-use relation::{Found, FoundFour, arcs, order, reduction, search};
+use relation::{arcs, order, reduction, search};
 use writer::writing;
 
 // An order that no tree means: the first N.
@@ -22,8 +22,8 @@ fn crossed(after: [JobSet; 128], under: &[JobSet; 128], n: usize) -> Analysis
 {
     let four = search::first_n(after, under, n);
     match four {
-        FoundFour::At(a, b, c, d) => refused(Verdict::Crossed(a, b, c, d)),
-        FoundFour::Nothing => refused(Verdict::Crossed(0, 0, 0, 0)),
+        Some((a, b, c, d)) => refused(Verdict::Crossed(a, b, c, d)),
+        None => refused(Verdict::Crossed(0, 0, 0, 0)),
     }
 }
 
@@ -80,7 +80,7 @@ pub fn of_arcs(list: &[u16], n: usize, hours: &[u16], bytes: &mut [u8], area: &m
     let after = closure::transitive_closure(arcs::table_of(list), n, &mut joins);
     let circle = order::first_on_cycle(after, n);
     match circle {
-        Found::At(u) => refused(Verdict::Cycle(u)),
-        Found::Nothing => take_apart(after, n, hours, bytes, area),
+        Some(u) => refused(Verdict::Cycle(u)),
+        None => take_apart(after, n, hours, bytes, area),
     }
 }

@@ -4,28 +4,28 @@ ghost use Rattle.std.specs.Prelude.{Some, option_map};
 ghost use Rattle.std.specs.Option.{option_or};
 ghost use Rattle.poset.specs.Order.{Within, arc};
 ghost use Rattle.relation.specs.Table.{holds};
-ghost use Rattle.relation.specs.Arcs.{pairs, place, outside, loop, found};
+ghost use Rattle.relation.specs.Arcs.{pairs, place, outside, loop};
 
 use relation::set::JobSet;
-use relation::{Found, arcs};
+use relation::arcs;
 
 // The first of two places, the second in a list that has so many arcs ahead of it.
-fn first_of(ahead: Found, behind: Found, count: usize) -> Found
-    requires { (count < 2 ^ 63) × ((k : ℕ) → found behind ≡ Some k → k < 2 ^ 63) }
-    ensures { found result ≡ option_or (found ahead) (option_map (λ k. count + k) (found behind)) }
+fn first_of(ahead: Option<usize>, behind: Option<usize>, count: usize) -> Option<usize>
+    requires { (count < 2 ^ 63) × ((k : ℕ) → behind ≡ Some k → k < 2 ^ 63) }
+    ensures { result ≡ option_or ahead (option_map (λ k. count + k) behind) }
 {
     match ahead {
-        Found::At(i) => Found::At(i),
-        Found::Nothing => match behind {
-            Found::At(k) => Found::At(count + k),
-            Found::Nothing => Found::Nothing,
+        Some(i) => Some(i),
+        None => match behind {
+            Some(k) => Some(count + k),
+            None => None,
         },
     }
 }
 
 // The place of the first arc that names a job not below n.
-pub fn first_outside(list: &[u16], last: &[u16], n: u16) -> Found
-    ensures { found result ≡ place (outside n) (pairs list.now ++ pairs last.now) }
+pub fn first_outside(list: &[u16], last: &[u16], n: u16) -> Option<usize>
+    ensures { result ≡ place (outside n) (pairs list.now ++ pairs last.now) }
 {
     first_of(
         arcs::first_outside(list, n),
@@ -35,8 +35,8 @@ pub fn first_outside(list: &[u16], last: &[u16], n: u16) -> Found
 }
 
 // The place of the first arc from a job to itself.
-pub fn first_loop(list: &[u16], last: &[u16]) -> Found
-    ensures { found result ≡ place loop (pairs list.now ++ pairs last.now) }
+pub fn first_loop(list: &[u16], last: &[u16]) -> Option<usize>
+    ensures { result ≡ place loop (pairs list.now ++ pairs last.now) }
 {
     first_of(
         arcs::first_loop(list),

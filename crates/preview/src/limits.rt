@@ -9,7 +9,6 @@ ghost use Rattle.analysis.specs.Result.{answer_of};
 
 use crate::{ends, order};
 use analysis::{Verdict, hours};
-use relation::Found;
 
 // Arcs that name jobs below n alone.
 fn of_named(n: u16, list: &[u16], last: &[u16], hours: &[u16]) -> Verdict
@@ -20,8 +19,8 @@ fn of_named(n: u16, list: &[u16], last: &[u16], hours: &[u16]) -> Verdict
 {
     let own = ends::first_loop(list, last);
     match own {
-        Found::At(i) => Verdict::Loop(i),
-        Found::Nothing => order::of_arcs(list, last, n as usize, hours),
+        Some(i) => Verdict::Loop(i),
+        None => order::of_arcs(list, last, n as usize, hours),
     }
 }
 
@@ -33,8 +32,8 @@ fn of_lists(n: u16, list: &[u16], last: &[u16], hours: &[u16]) -> Verdict
 {
     let far = ends::first_outside(list, last, n);
     match far {
-        Found::At(i) => Verdict::Outside(i),
-        Found::Nothing => of_named(n, list, last, hours),
+        Some(i) => Verdict::Outside(i),
+        None => of_named(n, list, last, hours),
     }
 }
 
@@ -48,8 +47,8 @@ fn of_hours(n: u16, list: &[u16], last: &[u16], hours: &[u16]) -> Verdict
     }
     let large = hours::first_large(hours);
     match large {
-        Found::At(j) => Verdict::HoursLarge(j),
-        Found::Nothing => of_lists(n, list, last, hours),
+        Some(j) => Verdict::HoursLarge(j),
+        None => of_lists(n, list, last, hours),
     }
 }
 

@@ -11,7 +11,7 @@ ghost use Rattle.analysis.specs.Result.{answer_of, crossed_by};
 use crate::ends;
 use analysis::{Verdict, hours};
 use relation::set::JobSet;
-use relation::{Found, FoundFour, order, reduction, search};
+use relation::{order, reduction, search};
 use writer::writing;
 
 // An order that no tree means: the first N.
@@ -23,8 +23,8 @@ fn crossed(after: [JobSet; 128], under: &[JobSet; 128], n: usize) -> Verdict
 {
     let four = search::first_n(after, under, n);
     match four {
-        FoundFour::At(a, b, c, d) => Verdict::Crossed(a, b, c, d),
-        FoundFour::Nothing => Verdict::Crossed(0, 0, 0, 0),
+        Some((a, b, c, d)) => Verdict::Crossed(a, b, c, d),
+        None => Verdict::Crossed(0, 0, 0, 0),
     }
 }
 
@@ -57,7 +57,7 @@ pub fn of_arcs(list: &[u16], last: &[u16], n: usize, hours: &[u16]) -> Verdict
     let after = closure::transitive_closure(ends::table_of(list, last), n, &mut joins);
     let circle = order::first_on_cycle(after, n);
     match circle {
-        Found::At(u) => Verdict::Cycle(u),
-        Found::Nothing => of_order(after, n, hours),
+        Some(u) => Verdict::Cycle(u),
+        None => of_order(after, n, hours),
     }
 }

@@ -1,11 +1,7 @@
 -- Arcs in a flat list of numbers, and what a search finds among them.
 use Rattle.std.specs.Prelude.{ℕ, suc, List, [], ◌∷◌, Bool, true, false, ◌||◌, eqb, leb}
 use Rattle.std.specs.Prelude.{Option, None, Some}
-use Rattle.poset.specs.Order.{Arc, Four}
-use Rattle.relation.specs.declared.Found.{Found}
-use Rattle.relation.specs.declared.Found.TheVariants as found_variants
-use Rattle.relation.specs.declared.FoundFour.{FoundFour}
-use Rattle.relation.specs.declared.FoundFour.TheVariants as four_variants
+use Rattle.poset.specs.Order.{Arc}
 
 -- the arcs of a flat list, two numbers for each; a last odd number is left out
 unfoldable pub pairs : List ℕ → List Arc
@@ -28,11 +24,3 @@ outside n a = leb n a.0 || leb n a.1
 -- the arc leads from a job to itself
 unfoldable pub loop : Arc → Bool
 loop a = eqb a.0 a.1
-
-abbrev pub found : Found → Option ℕ
-found (found_variants.At i) = Some i
-found found_variants.Nothing = None
-
-abbrev pub found_four : FoundFour → Option Four
-found_four (four_variants.At a b c d) = Some (a, b, c, d)
-found_four four_variants.Nothing = None

@@ -3,9 +3,8 @@ ghost use Rattle.std.specs.Prelude.{ℕ, ◌+◌, ◌*◌, ◌≤◌, ◌<◌, �
 ghost use Rattle.poset.specs.Lists.{exists};
 ghost use Rattle.poset.specs.Order.{Within, arc};
 ghost use Rattle.relation.specs.Table.{holds};
-ghost use Rattle.relation.specs.Arcs.{pairs, place, outside, loop, found};
+ghost use Rattle.relation.specs.Arcs.{pairs, place, outside, loop};
 
-use crate::Found;
 use crate::set::JobSet;
 
 // The greatest number of a list, or 0. A loop with no exit in it, for several numbers at a time.
@@ -37,37 +36,37 @@ fn some_loop(arcs: &[u16]) -> bool
 }
 
 // The place of the first arc that names a job not below n.
-pub fn first_outside(arcs: &[u16], n: u16) -> Found
-    ensures { found result ≡ place (outside n) (pairs arcs.now) }
+pub fn first_outside(arcs: &[u16], n: u16) -> Option<usize>
+    ensures { result ≡ place (outside n) (pairs arcs.now) }
 {
     if greatest(arcs) < n {
-        return Found::Nothing;
+        return None;
     }
     let mut i = 0;
     while i + 1 < arcs.len() {
         if arcs[i] >= n || arcs[i + 1] >= n {
-            return Found::At(i / 2);
+            return Some(i / 2);
         }
         i += 2;
     }
-    Found::Nothing
+    None
 }
 
 // The place of the first arc from a job to itself.
-pub fn first_loop(arcs: &[u16]) -> Found
-    ensures { found result ≡ place loop (pairs arcs.now) }
+pub fn first_loop(arcs: &[u16]) -> Option<usize>
+    ensures { result ≡ place loop (pairs arcs.now) }
 {
     if !some_loop(arcs) {
-        return Found::Nothing;
+        return None;
     }
     let mut i = 0;
     while i + 1 < arcs.len() {
         if arcs[i] == arcs[i + 1] {
-            return Found::At(i / 2);
+            return Some(i / 2);
         }
         i += 2;
     }
-    Found::Nothing
+    None
 }
 
 // The arc at place k into a table.

@@ -8,17 +8,3 @@ pub mod reduction;
 pub mod search;
 pub mod set;
 mod turning;
-
-// Where a search found what it looked for.
-#[derive(Clone, Copy)]
-pub enum Found {
-    At(usize),
-    Nothing,
-}
-
-// The four jobs that a search found.
-#[derive(Clone, Copy)]
-pub enum FoundFour {
-    At(usize, usize, usize, usize),
-    Nothing,
-}

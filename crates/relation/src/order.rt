@@ -2,22 +2,21 @@
 ghost use Rattle.std.specs.Prelude.{ℕ, ◌≤◌, ◌≡◌};
 ghost use Rattle.poset.specs.Order.{first_on_cycle_of};
 ghost use Rattle.relation.specs.Table.{holds, Inside};
-ghost use Rattle.relation.specs.Arcs.{found};
 
 use crate::set::JobSet;
-use crate::{Found, turning};
+use crate::turning;
 
 // The smallest job below n that is before itself.
-pub fn first_on_cycle(t: [JobSet; 128], n: usize) -> Found
+pub fn first_on_cycle(t: [JobSet; 128], n: usize) -> Option<usize>
     requires { n ≤ 128 }
-    ensures { found result ≡ first_on_cycle_of n (holds t) }
+    ensures { result ≡ first_on_cycle_of n (holds t) }
 {
     for u in 0..n {
         if t[u].contains(u) {
-            return Found::At(u);
+            return Some(u);
         }
     }
-    Found::Nothing
+    None
 }
 
 // The relation the other way round, by a step for each binary digit of the jobs' numbers.

@@ -4,10 +4,11 @@ ghost use Rattle.std.specs.Prelude.{Some};
 ghost use Rattle.poset.specs.Lists.{exists, first, below, only_if};
 ghost use Rattle.poset.specs.Order.{is_n, first_n_of};
 ghost use Rattle.relation.specs.Table.{has, holds, members, apart, Twins, Inside};
-ghost use Rattle.relation.specs.Arcs.{found, found_four};
 
 use crate::set::JobSet;
-use crate::{Found, FoundFour};
+
+// The jobs a, b, c and d of an N.
+pub type FourJobs = (usize, usize, usize, usize);
 
 // The table of the incomparable jobs: for each job those below n that are not itself, nor after it, nor before it.
 fn incomparabilities(after: &[JobSet; 128], under: &[JobSet; 128], n: usize) -> [JobSet; 128]
@@ -25,40 +26,39 @@ fn incomparabilities(after: &[JobSet; 128], under: &[JobSet; 128], n: usize) -> 
 }
 
 // The smallest job of cs whose row has a job of ds.
-fn first_meeting(t: &[JobSet; 128], cs: JobSet, ds: JobSet) -> Found
-    ensures { found result ≡ first (λ c. only_if (exists (λ d. has ds d && holds t.now c d) (below 128)) c) (members cs) }
+fn first_meeting(t: &[JobSet; 128], cs: JobSet, ds: JobSet) -> Option<usize>
+    ensures { result ≡ first (λ c. only_if (exists (λ d. has ds d && holds t.now c d) (below 128)) c) (members cs) }
 {
     let mut rest = cs;
     while rest.inhabited() {
         let c = rest.smallest();
         if ds.intersection(t[c]).inhabited() {
-            return Found::At(c);
+            return Some(c);
         }
         let others = rest.without_smallest();
         rest = others;
     }
-    Found::Nothing
+    None
 }
 
 // As first_meeting, one word of cs after the other, which is quicker: the other word is known to be 0.
-fn first_by_words(t: &[JobSet; 128], cs: JobSet, ds: JobSet) -> Found
-    ensures { found result ≡ first (λ c. only_if (exists (λ d. has ds d && holds t.now c d) (below 128)) c) (members cs) }
+fn first_by_words(t: &[JobSet; 128], cs: JobSet, ds: JobSet) -> Option<usize>
+    ensures { result ≡ first (λ c. only_if (exists (λ d. has ds d && holds t.now c d) (below 128)) c) (members cs) }
 {
-    let found = first_meeting(t, cs.low(), ds);
-    let Found::Nothing = found else {
-        return found;
-    };
+    if let Some(c) = first_meeting(t, cs.low(), ds) {
+        return Some(c);
+    }
     first_meeting(t, cs.high(), ds)
 }
 
 // The jobs a, b, c and the smallest of a set, if there is one.
-fn with_smallest(a: usize, b: usize, c: usize, s: JobSet) -> FoundFour
-    ensures { found_four result ≡ first (λ d. Some (a, b, c, d)) (members s) }
+fn with_smallest(a: usize, b: usize, c: usize, s: JobSet) -> Option<FourJobs>
+    ensures { result ≡ first (λ d. Some (a, b, c, d)) (members s) }
 {
     if !s.inhabited() {
-        return FoundFour::Nothing;
+        return None;
     }
-    FoundFour::At(a, b, c, s.smallest())
+    Some((a, b, c, s.smallest()))
 }
 
 // The first N with a and b: its c is among cs, which both are before, and its d among ds, which are after b and incomparable to a.
@@ -68,44 +68,40 @@ fn first_with_b(
     n: usize,
     a: usize,
     b: usize,
-) -> FoundFour
+) -> Option<FourJobs>
     requires n_bound { (n ≤ 128) × (apart n (holds after.now) a b ≡ true) }
     requires inside { Inside n after.now }
     requires by_index { (u v : ℕ) → holds free.now u v ≡ apart n (holds after.now) u v }
-    ensures { found_four result
+    ensures { result
         ≡ first (λ c. first (λ d. only_if (is_n (holds after.now) a b c d) (a, b, c, d)) (below n)) (below n) }
 {
     let ds = after[b].intersection(free[a]);
     let cs = after[a].intersection(after[b]);
     if !ds.inhabited() {
-        return FoundFour::Nothing;
+        return None;
     }
-    let found = first_by_words(free, cs, ds);
-    match found {
-        Found::At(c) => with_smallest(a, b, c, ds.intersection(free[c])),
-        Found::Nothing => FoundFour::Nothing,
-    }
+    let c = first_by_words(free, cs, ds)?;
+    with_smallest(a, b, c, ds.intersection(free[c]))
 }
 
 // The first N with a: its b is incomparable to a.
-fn first_with_a(after: &[JobSet; 128], free: &[JobSet; 128], n: usize, a: usize) -> FoundFour
+fn first_with_a(after: &[JobSet; 128], free: &[JobSet; 128], n: usize, a: usize) -> Option<FourJobs>
     requires n_bound { (n ≤ 128) × (a < n) }
     requires inside { Inside n after.now }
     requires by_index { (u v : ℕ) → holds free.now u v ≡ apart n (holds after.now) u v }
-    ensures { found_four result
+    ensures { result
         ≡ first (λ b. first (λ c. first (λ d. only_if (is_n (holds after.now) a b c d) (a, b, c, d)) (below n)) (below n)) (below n) }
 {
     let mut bs = free[a];
     while bs.inhabited() {
         let b = bs.smallest();
-        let found = first_with_b(after, free, n, a, b);
-        let FoundFour::Nothing = found else {
-            return found;
-        };
+        if let Some(jobs) = first_with_b(after, free, n, a, b) {
+            return Some(jobs);
+        }
         let others = bs.without_smallest();
         bs = others;
     }
-    FoundFour::Nothing
+    None
 }
 
 // Whether a stands to every job as the one numbered just below it does.
@@ -130,34 +126,33 @@ fn first_unless_twin(
     free: &[JobSet; 128],
     n: usize,
     a: usize,
-) -> FoundFour
+) -> Option<FourJobs>
     requires n_bound { (n ≤ 128) × (a < n) }
     requires inside { Inside n after.now }
     requires by_index { (u v : ℕ) → holds under.now u v ≡ holds after.now v u }
     requires by_index_2 { (u v : ℕ) → holds free.now u v ≡ apart n (holds after.now) u v }
     requires by_index_3 { (i : ℕ) → i < a → (b c d : ℕ) → b < n → c < n → d < n → is_n (holds after.now) i b c d ≡ false }
-    ensures { found_four result
+    ensures { result
         ≡ first (λ b. first (λ c. first (λ d. only_if (is_n (holds after.now) a b c d) (a, b, c, d)) (below n)) (below n)) (below n) }
 {
     if twin(after, under, a) {
-        return FoundFour::Nothing;
+        return None;
     }
     first_with_a(after, free, n, a)
 }
 
 // The first N of the order that one table holds and the other holds transposed.
-pub fn first_n(after: [JobSet; 128], under: &[JobSet; 128], n: usize) -> FoundFour
+pub fn first_n(after: [JobSet; 128], under: &[JobSet; 128], n: usize) -> Option<FourJobs>
     requires n_bound { n ≤ 128 }
     requires inside { Inside n after }
     requires by_index { (u v : ℕ) → holds under.now u v ≡ holds after v u }
-    ensures { found_four result ≡ first_n_of n (holds after) }
+    ensures { result ≡ first_n_of n (holds after) }
 {
     let free = incomparabilities(&after, under, n);
     for a in 0..n {
-        let found = first_unless_twin(&after, under, &free, n, a);
-        let FoundFour::Nothing = found else {
-            return found;
-        };
+        if let Some(jobs) = first_unless_twin(&after, under, &free, n, a) {
+            return Some(jobs);
+        }
     }
-    FoundFour::Nothing
+    None
 }

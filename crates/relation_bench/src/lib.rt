@@ -12,17 +12,13 @@ ghost use Rattle.relation_bench.specs.Steps.{fits, acyclic, joins_of, pass_joins
 
 use closure::passes;
 use relation::set::JobSet;
-use relation::{Found, FoundFour, arcs, order, reduction, search};
+use relation::{arcs, order, reduction, search};
 
 // Whether there are at most 128 jobs and the arcs name them alone.
 pub fn fits(arcs: &[u16], n: u16) -> bool
     ensures { result ≡ fits n (pairs arcs.now) }
 {
-    let found = arcs::first_outside(arcs, n);
-    match found {
-        Found::At(_) => false,
-        Found::Nothing => n <= 128,
-    }
+    arcs::first_outside(arcs, n).is_none() && n <= 128
 }
 
 // The closure of the arcs.
@@ -41,11 +37,7 @@ pub fn acyclic(after: [JobSet; 128], n: usize) -> bool
     requires { n ≤ 128 }
     ensures { result ≡ acyclic n (holds after) }
 {
-    let found = order::first_on_cycle(after, n);
-    match found {
-        Found::At(_) => false,
-        Found::Nothing => true,
-    }
+    order::first_on_cycle(after, n).is_none()
 }
 
 // The closure, made once and as many times again, and how many joins it takes; 0 where the arcs do not fit.
@@ -110,12 +102,11 @@ fn searched(after: [JobSet; 128], n: usize) -> u64
     ensures { result ≡ packed (first_n_of n (holds after)) }
 {
     let under = order::transposed(after, n);
-    let found = search::first_n(after, &under, n);
-    match found {
-        FoundFour::At(a, b, c, d) => {
+    match search::first_n(after, &under, n) {
+        Some((a, b, c, d)) => {
             (a % 256 + 256 * (b % 256) + 65536 * (c % 256) + 16777216 * (d % 256)) as u64
         }
-        FoundFour::Nothing => 0x1_0000_0000,
+        None => 0x1_0000_0000,
     }
 }
 

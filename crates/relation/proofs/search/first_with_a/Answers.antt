@@ -1,9 +1,8 @@
 -- `relation::search::first_with_a` meets its contract.
-use mathlib.Core.Path.{sym, ap, ◌∙◌}
+use mathlib.Core.Path.{sym, ◌∙◌}
 use Rattle.poset.specs.Lists.{below}
 use Rattle.poset.proofs.Searches.{at_b}
 use Rattle.relation.specs.Table.{holds}
-use Rattle.relation.specs.Arcs.{found_four}
 use Rattle.relation.proofs.Sets.{members_less}
 use borrow.Author.Rules.{rules}
 use Rattle.relation.proofs.Tables.{row_read}
@@ -19,21 +18,19 @@ loop-bs-init c =
 pub smallest-b-requires : goal.smallest-b-requires
 smallest-b-requires c = sym c.inhabited.ensures ∙ c.loop-bs-test.true
 
-pub first_with_b-found-requires : goal.first_with_b-found-requires
-first_with_b-found-requires c =
+pub first_with_b-requires : goal.first_with_b-requires
+first_with_b-requires c =
     record {
       n_bound = (c.requires.n_bound.0, c.loop-bs.invariant.beside _ c.smallest-b.ensures.member);
       inside = c.requires.inside;
       by_index = c.requires.by_index;
     }
 
-pub returns-in_default : goal.returns-in_default
-returns-in_default c =
+pub returns-in-Some : goal.returns-in-Some
+returns-in-Some c =
     let l = c.loop-bs in
-    let e = ap found_four c.in_default.is in
-    e
-    ∙ sought_hit (at_b c.args.n (holds c.args.after.now) c.args.a) (below c.args.n) l.bs l.invariant.sought _ c.smallest-b.ensures
-    (sym c.first_with_b-found.ensures ∙ e)
+    sought_hit (at_b c.args.n (holds c.args.after.now) c.args.a) (below c.args.n) l.bs l.invariant.sought _ c.smallest-b.ensures
+    (sym c.first_with_b.ensures ∙ c.in-Some.is)
 
 pub without_smallest-others-requires : goal.without_smallest-others-requires
 without_smallest-others-requires c = sym c.inhabited.ensures ∙ c.loop-bs-test.true
@@ -46,7 +43,7 @@ pub loop-bs-preserved : goal.loop-bs-preserved
 loop-bs-preserved c =
     let l = c.loop-bs in
     beside_next c.args.n (holds c.args.after.now) c.args.a l.bs l.invariant _ c.smallest-b.ensures _ c.without_smallest-others.ensures
-    (sym c.first_with_b-found.ensures ∙ ap found_four c.in-Nothing.is)
+    (sym c.first_with_b.ensures ∙ c.in_default.is)
 
 pub returns : goal.returns
 returns c =

@@ -1,9 +1,8 @@
 -- `relation::search::first_with_b` meets its contract.
 use Prim.Native.Nat.{◌<◌}
 use native.Mathlib.Omega.{arith}
-use mathlib.Core.Path.{sym, ap, ◌∙◌}
+use mathlib.Core.Path.{sym, ◌∙◌}
 use Rattle.relation.specs.Table.{holds}
-use Rattle.relation.specs.Arcs.{found}
 use Rattle.relation.proofs.Tables.{row_read}
 use Rattle.relation.proofs.Sought.{apart_both, Sides, no_fourth, no_third, third_small, third_found}
 use Rattle.relation.proofs.search.first_with_b.Goals.{Start, After-intersection-cs}
@@ -76,32 +75,33 @@ pub offset_bounds-free-c : goal.offset_bounds-free-c
 offset_bounds-free-c c =
     omega (
       arith,
-      third_small _ _ _ _ _ _ _ (sides (goal.at.offset_bounds-free-c c).After-intersection-cs) _ c.first_by_words-found.ensures _
-          (ap found c.in-At.is),
+      third_small _ _ _ _ _ _ _ (sides (goal.at.offset_bounds-free-c c).After-intersection-cs) _ c.first_by_words.ensures _
+          c.in_ok-c.was,
     )
 
 pub bounds-free-c : goal.bounds-free-c
 bounds-free-c c =
-    third_small _ _ _ _ _ _ _ (sides (goal.at.bounds-free-c c).After-intersection-cs) _ c.first_by_words-found.ensures _ (ap found c.in-At.is)
+    third_small _ _ _ _ _ _ _ (sides (goal.at.bounds-free-c c).After-intersection-cs) _ c.first_by_words.ensures _ c.in_ok-c.was
 
-pub listed-in-At : goal.listed-in-At
-listed-in-At c =
+pub listed-5 : goal.listed-5
+listed-5 c =
     omega (
       arith,
-      third_small _ _ _ _ _ _ _ (sides (goal.at.listed-in-At c).After-intersection-cs) _ c.first_by_words-found.ensures _
-          (ap found c.in-At.is),
+      third_small _ _ _ _ _ _ _ (sides (goal.at.listed-5 c).After-intersection-cs) _ c.first_by_words.ensures _
+          c.in_ok-c.was,
     )
 
-pub returns-in-At : goal.returns-in-At
+pub returns : goal.returns
 unfolding holds
-returns-in-At c =
+returns c =
     let small =
-    third_small _ _ _ _ _ _ _ (sides (goal.at.returns-in-At c).After-intersection-cs) _ c.first_by_words-found.ensures _ (ap found c.in-At.is) in
-    let e = row_read c.args.free.now c.in-At.c c.index-free-c.result (omega arith) in
+    third_small _ _ _ _ _ _ _ (sides (goal.at.returns c).After-intersection-cs) _ c.first_by_words.ensures _ c.in_ok-c.was in
+    let e = row_read c.args.free.now c.in_ok-c.c c.index-free-c.result (omega arith) in
     c.with_smallest.ensures
-    ∙ third_found _ _ _ _ _ _ _ (sides (goal.at.returns-in-At c).After-intersection-cs) _ c.first_by_words-found.ensures _ (ap found c.in-At.is) _
+    ∙ third_found _ _ _ _ _ _ _ (sides (goal.at.returns c).After-intersection-cs) _ c.first_by_words.ensures _ c.in_ok-c.was _
     (rw e at c.intersection.ensures)
 
-pub returns-in-Nothing : goal.returns-in-Nothing
-returns-in-Nothing c =
-    no_third _ _ _ _ _ _ _ (sides (goal.at.returns-in-Nothing c).After-intersection-cs) _ c.first_by_words-found.ensures (ap found c.in-Nothing.is)
+pub returns-in_err-c : goal.returns-in_err-c
+returns-in_err-c c =
+    c.from_residual.ensures
+    ∙ no_third _ _ _ _ _ _ _ (sides (goal.at.returns-in_err-c c).After-intersection-cs) _ c.first_by_words.ensures c.in_err-c.was
