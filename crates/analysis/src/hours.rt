@@ -5,7 +5,6 @@ ghost use Rattle.poset.specs.Areas.{padded};
 ghost use Rattle.relation.specs.Arcs.{place};
 ghost use Rattle.record.specs.Layout.{most_hours};
 
-
 // More hours than a job may have.
 fn large(hours: u16) -> bool
     ensures { result ≡ ltb most_hours hours }

@@ -2,7 +2,6 @@
 use Prim.Native.Nat.{ℕ}
 use mathlib.Core.Path.{◌≡◌, refl}
 use mathlib.Core.List.{List, [], ◌∷◌, map, flat_map}
-use Rattle.std.specs.Prelude.{option_and_then}
 use Rattle.poset.specs.Lists.{exists, keep, member, up_from, below, first, only_if}
 use Rattle.poset.specs.Order.{arc, via, before, first_on_cycle_of, comparable, incomparable, is_n, first_n_of, covers, pairs_of, reduction}
 use Rattle.poset.specs.Tree.{leaves, groups, outranks}

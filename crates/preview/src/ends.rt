@@ -6,8 +6,8 @@ ghost use Rattle.poset.specs.Order.{Within, arc};
 ghost use Rattle.relation.specs.Table.{holds};
 ghost use Rattle.relation.specs.Arcs.{pairs, place, outside, loop};
 
-use relation::set::JobSet;
 use relation::arcs;
+use relation::set::JobSet;
 
 // The first of two places, the second in a list that has so many arcs ahead of it.
 fn first_of(ahead: Option<usize>, behind: Option<usize>, count: usize) -> Option<usize>

@@ -4,7 +4,7 @@ use native.Mathlib.Omega.{arith}
 use mathlib.Core.Path.{◌≡◌, refl, ap, fun_ext, ◌∙◌}
 use mathlib.Core.List.{List, [], flat_map}
 use mathlib.Core.Bool.{true, false}
-use Rattle.std.specs.Prelude.{Option, None, Some}
+use Rattle.std.specs.Prelude.{Option, None, Some, is_none}
 use lib.Dec.{leb}
 use lib.ListN.{length}
 use borrow.Author.Tests.{leb-true, le-leb, lt-leb}
@@ -16,10 +16,9 @@ use Rattle.relation.specs.Table.{holds, Inside}
 use Rattle.relation.specs.Arcs.{place, outside}
 use Rattle.relation.proofs.Chain.{outside_none, table_arcs, table_inside}
 use Rattle.closure.specs.Joins.{pass_joins, join_count}
-use Rattle.relation_bench.specs.Steps.{nothing, fits, acyclic, joins_of, pass_joins_of, reduced_arcs, packed, packed_n}
+use Rattle.relation_bench.specs.Steps.{fits, acyclic, joins_of, pass_joins_of, reduced_arcs, packed, packed_n}
 
-nothing_none : (o : Option ℕ) → nothing o ≡ true → o ≡ None
-unfolding nothing
+nothing_none : (o : Option ℕ) → is_none o ≡ true → o ≡ None
 nothing_none None h = refl
 nothing_none (Some i) h = absurd (clash h refl)
 
@@ -32,7 +31,7 @@ module _ (n : ℕ) (arcs : List Arc) where
   pub fits_within : fits n arcs ≡ true → (n ≤ 128) × Within n arcs
   unfolding fits
   fits_within h =
-      let free = nothing (place (outside n) arcs) in
+      let free = is_none (place (outside n) arcs) in
       (leb-true n 128 (and_right free (leb n 128) h), outside_none n arcs (nothing_none _ (and_left free (leb n 128) h)))
 
   pub acyclic_strict : acyclic n (before n arcs) ≡ true → Strict n (before n arcs)

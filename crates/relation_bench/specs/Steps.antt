@@ -1,22 +1,17 @@
 -- The steps from arcs to their closure, their reduction and their first N, for arcs that a caller in C hands in.
 use Rattle.std.specs.Prelude.{ℕ, ◌+◌, ◌*◌, ◌%◌, List, [], Bool, true, false, ◌&&◌, leb, length}
-use Rattle.std.specs.Prelude.{Option, None, Some}
+use Rattle.std.specs.Prelude.{Option, None, Some, is_none}
 use Rattle.poset.specs.Order.{Arc, Rel, Four, arc, before, first_on_cycle_of, reduction, first_n_of}
 use Rattle.relation.specs.Arcs.{place, outside}
 use Rattle.closure.specs.Joins.{pass_joins, join_count}
 
--- a search has found nothing
-unfoldable pub nothing : Option ℕ → Bool
-nothing None = true
-nothing (Some i) = false
-
 -- at most 128 jobs, and the arcs name them alone
 unfoldable pub fits : ℕ → List Arc → Bool
-fits n arcs = nothing (place (outside n) arcs) && leb n 128
+fits n arcs = is_none (place (outside n) arcs) && leb n 128
 
 -- no job is before itself
 unfoldable pub acyclic : ℕ → Rel → Bool
-acyclic n r = nothing (first_on_cycle_of n r)
+acyclic n r = is_none (first_on_cycle_of n r)
 
 -- the joins of the closure of arcs that fit, and those of the passes; else 0
 

@@ -1,17 +1,11 @@
 -- `relation_bench::fits` meets its contract.
-use mathlib.Core.Path.{sym, ap, ◌∙◌}
-use mathlib.Core.Bool.{◌&&◌}
-use lib.Dec.{leb}
-use Rattle.relation.specs.Arcs.{found}
-use Rattle.relation_bench.specs.Steps.{nothing, fits}
+use Rattle.relation_bench.specs.Steps.{fits}
 use Rattle.relation_bench.proofs.fits.Goals as goal
 
-pub returns-in-At : goal.returns-in-At
-unfolding fits nothing
-returns-in-At c =
-    ap (λ o. nothing o && leb c.args.n 128) (sym (ap found c.in-At.is) ∙ c.first_outside-found.ensures)
+pub returns-then-is_none : goal.returns-then-is_none
+unfolding fits
+returns-then-is_none c = rw (← c.first_outside.ensures, c.is_none.ensures, c.if-is_none.true)
 
-pub returns-in-Nothing : goal.returns-in-Nothing
-unfolding fits nothing
-returns-in-Nothing c =
-    ap (λ o. nothing o && leb c.args.n 128) (sym (ap found c.in-Nothing.is) ∙ c.first_outside-found.ensures)
+pub returns-else-is_none : goal.returns-else-is_none
+unfolding fits
+returns-else-is_none c = rw (← c.first_outside.ensures, c.is_none.ensures, c.if-is_none.false)

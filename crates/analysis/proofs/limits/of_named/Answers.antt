@@ -1,6 +1,6 @@
 -- `limits::of_named` meets its contract: the first arc from a job to itself decides 6, and the order all others.
-use mathlib.Core.Path.{sym, ap, refl, ◌∙◌}
-use Rattle.relation.specs.Arcs.{pairs, found}
+use mathlib.Core.Path.{sym, refl, ◌∙◌}
+use Rattle.relation.specs.Arcs.{pairs}
 use Rattle.analysis.proofs.Crossing.{gives_same, gives_refused}
 use Rattle.relation.proofs.Chain.{outside_none}
 use Rattle.analysis.proofs.Steps.{listed_6, listed_order}
@@ -14,12 +14,12 @@ of_arcs-requires c =
       hours_len = c.requires.hours_len;
     }
 
-pub returns-in-At : goal.returns-in-At
-returns-in-At c =
-    let here = sym c.first_loop-own.ensures ∙ ap found c.in-At.is in
+pub returns-in-Some : goal.returns-in-Some
+returns-in-Some c =
+    let here = sym c.first_loop-own.ensures ∙ c.in-Some.is in
     gives_refused c.refused.ensures (listed_6 _ _ _ _ _ c.requires.list_value here) refl
 
-pub returns-in-Nothing : goal.returns-in-Nothing
-returns-in-Nothing c =
-    let none_here = sym c.first_loop-own.ensures ∙ ap found c.in-Nothing.is in
+pub returns-in-None : goal.returns-in-None
+returns-in-None c =
+    let none_here = sym c.first_loop-own.ensures ∙ c.in-None.is in
     gives_same (sym (listed_order _ _ _ _ c.requires.list_value none_here)) c.of_arcs.ensures

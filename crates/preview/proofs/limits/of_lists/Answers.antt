@@ -1,6 +1,5 @@
 -- `limits::of_lists` meets its contract: 5, or what arcs give that name jobs alone.
-use mathlib.Core.Path.{sym, ap, ◌∙◌}
-use Rattle.relation.specs.Arcs.{found}
+use mathlib.Core.Path.{sym, ◌∙◌}
 use Rattle.analysis.proofs.Steps.{listed_5}
 use Rattle.preview.proofs.Answering.{told_refused}
 use Rattle.preview.proofs.limits.of_lists.Goals as goal
@@ -10,9 +9,9 @@ of_named-requires c =
     record {
       n_nonzero = c.requires.n_nonzero;
       hours_len = c.requires.hours_len;
-      last_value = sym c.first_outside-far.ensures ∙ ap found c.in-Nothing.is;
+      last_value = sym c.first_outside-far.ensures ∙ c.in-None.is;
     }
 
-pub returns-in-At : goal.returns-in-At
-returns-in-At c =
-    told_refused (listed_5 _ _ _ _ _ (sym c.first_outside-far.ensures ∙ ap found c.in-At.is))
+pub returns-in-Some : goal.returns-in-Some
+returns-in-Some c =
+    told_refused (listed_5 _ _ _ _ _ (sym c.first_outside-far.ensures ∙ c.in-Some.is))

@@ -1,7 +1,7 @@
 -- `limits::of_named` meets its contract: 6, or what the order gives.
-use mathlib.Core.Path.{sym, ap, ◌∙◌}
+use mathlib.Core.Path.{sym, ◌∙◌}
 use mathlib.Core.List.{◌++◌}
-use Rattle.relation.specs.Arcs.{pairs, found}
+use Rattle.relation.specs.Arcs.{pairs}
 use Rattle.relation.proofs.Chain.{outside_none}
 use Rattle.analysis.proofs.Steps.{listed_6, listed_order}
 use Rattle.preview.proofs.Answering.{same_answer, told_refused}
@@ -15,11 +15,11 @@ of_arcs-requires c =
       hours_len = c.requires.hours_len;
     }
 
-pub returns-in-At : goal.returns-in-At
-returns-in-At c =
-    told_refused (listed_6 _ _ _ _ _ c.requires.last_value (sym c.first_loop-own.ensures ∙ ap found c.in-At.is))
+pub returns-in-Some : goal.returns-in-Some
+returns-in-Some c =
+    told_refused (listed_6 _ _ _ _ _ c.requires.last_value (sym c.first_loop-own.ensures ∙ c.in-Some.is))
 
-pub returns-in-Nothing : goal.returns-in-Nothing
-returns-in-Nothing c =
-    let none_here = sym c.first_loop-own.ensures ∙ ap found c.in-Nothing.is in
+pub returns-in-None : goal.returns-in-None
+returns-in-None c =
+    let none_here = sym c.first_loop-own.ensures ∙ c.in-None.is in
     c.of_arcs.ensures ∙ same_answer (sym (listed_order _ _ _ _ c.requires.last_value none_here))

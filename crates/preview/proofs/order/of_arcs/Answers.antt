@@ -1,20 +1,20 @@
 -- `order::of_arcs` meets its contract: the closure's first job before itself decides between 7 and the rest.
-use mathlib.Core.Path.{◌≡◌, sym, ap, ◌∙◌}
+use mathlib.Core.Path.{◌≡◌, sym, ◌∙◌}
 use mathlib.Core.List.{◌++◌}
 use Rattle.std.specs.Prelude.{None}
 use native.Mathlib.Omega.{arith}
 use Rattle.poset.specs.Order.{first_on_cycle_of}
 use Rattle.relation.specs.Table.{holds}
-use Rattle.relation.specs.Arcs.{pairs, found}
+use Rattle.relation.specs.Arcs.{pairs}
 use Rattle.relation.proofs.Chain.{table_inside}
 use Rattle.analysis.proofs.Circles.{circle_outcome, order_outcome, order_asks}
 use Rattle.preview.proofs.Answering.{same_answer, told_refused}
 use Rattle.preview.proofs.order.of_arcs.Goals as goal
-use Rattle.preview.proofs.order.of_arcs.Goals.{In-Nothing}
+use Rattle.preview.proofs.order.of_arcs.Goals.{In-None}
 
 -- no job is before itself in the closure
-none_here : (c : goal.In-Nothing) → first_on_cycle_of c.args.n (holds c.transitive_closure-after.result) ≡ None
-none_here c = sym c.first_on_cycle-circle.ensures ∙ ap found c.in-Nothing.is
+none_here : (c : goal.In-None) → first_on_cycle_of c.args.n (holds c.transitive_closure-after.result) ≡ None
+none_here c = sym c.first_on_cycle-circle.ensures ∙ c.in-None.is
 
 pub table_of-requires : goal.table_of-requires
 table_of-requires c =
@@ -34,19 +34,19 @@ of_order-requires c =
     let a = c.args in
     let s = c.requires in
     let asked = order_asks a.n (pairs a.list.now ++ pairs a.last.now) _ _ c.table_of.ensures c.transitive_closure-after.ensures.by_index s.within
-    (none_here (goal.at.of_order-requires c).In-Nothing) in
+    (none_here (goal.at.of_order-requires c).In-None) in
     record { n_nonzero = s.n_nonzero; strict = asked.0; inside = asked.1; hours_len = s.hours_len }
 
-pub returns-in-At : goal.returns-in-At
-returns-in-At c =
+pub returns-in-Some : goal.returns-in-Some
+returns-in-Some c =
     let a = c.args in
     told_refused
     (circle_outcome a.n (pairs a.list.now ++ pairs a.last.now) _ _ c.table_of.ensures c.transitive_closure-after.ensures.by_index _ _
-    (sym c.first_on_cycle-circle.ensures ∙ ap found c.in-At.is))
+    (sym c.first_on_cycle-circle.ensures ∙ c.in-Some.is))
 
-pub returns-in-Nothing : goal.returns-in-Nothing
-returns-in-Nothing c =
+pub returns-in-None : goal.returns-in-None
+returns-in-None c =
     let a = c.args in
     c.of_order.ensures
     ∙ same_answer (order_outcome a.n (pairs a.list.now ++ pairs a.last.now) _ _ c.table_of.ensures
-    c.transitive_closure-after.ensures.by_index _ _ (none_here (goal.at.returns-in-Nothing c).In-Nothing))
+    c.transitive_closure-after.ensures.by_index _ _ (none_here (goal.at.returns-in-None c).In-None))
