@@ -3,9 +3,9 @@ use Prim.Native.Nat.{ℕ}
 use mathlib.Core.Path.{◌≡◌, refl, sym, ap, ◌∙◌}
 use mathlib.Core.List.{List}
 use Rattle.std.specs.Prelude.{Option, None, Some}
-use Rattle.poset.specs.Order.{Arc, Rel, Within, Strict, arc, via, before, first_on_cycle_of}
+use Rattle.poset.specs.Order.{Arc, Rel, Strict, arc, via, before, first_on_cycle_of}
 use Rattle.relation.specs.Table.{holds, Inside}
-use Rattle.relation.proofs.Chain.{table_inside, closure_before, closure_strict, closure_inside}
+use Rattle.relation.proofs.Chain.{closure_before, closure_strict, closure_inside}
 use Rattle.analysis.specs.Outcome.{Rooms, Outcome, refuse, decomposed, ordered}
 
 abbrev after_circle : Rooms → ℕ → List ℕ → Rel → Option ℕ → Outcome
@@ -20,24 +20,24 @@ ordered_is rs n hours r = go (first_on_cycle_of n r)
     go (Some u) = refl
     go None = refl
 
+-- a job is before itself, or none is
+module _ (rs : Rooms) (n : ℕ) (hours : List ℕ) (r : Rel) where
+  pub circle_outcome : {u : ℕ} → first_on_cycle_of n r ≡ Some u → ordered rs n hours r ≡ refuse 7 u 0 0 0
+  circle_outcome e = ordered_is rs n hours r ∙ ap (after_circle rs n hours r) e
+
+  pub order_outcome : first_on_cycle_of n r ≡ None → ordered rs n hours r ≡ decomposed rs n hours r
+  order_outcome e = ordered_is rs n hours r ∙ ap (after_circle rs n hours r) e
+
 -- arcs, their table and its closure
 module _
     (n : ℕ) (arcs : List Arc) (t c : List (List ℕ)) (table : (u v : ℕ) → holds t u v ≡ arc arcs u v)
     (closed : (u v : ℕ) → holds c u v ≡ via (holds t) n u v) where
-  closes : holds c ≡ before n arcs
+  pub closes : holds c ≡ before n arcs
   closes = closure_before n arcs t table c closed
 
-  -- a job is before itself, or the order is that of the closure
-  module _ (rs : Rooms) (hours : List ℕ) where
-    pub circle_outcome : {u : ℕ} → first_on_cycle_of n (holds c) ≡ Some u → ordered rs n hours (before n arcs) ≡ refuse 7 u 0 0 0
-    circle_outcome e =
-        ordered_is rs n hours (before n arcs) ∙ ap (after_circle rs n hours (before n arcs)) (ap (first_on_cycle_of n) (sym closes) ∙ e)
-
-    pub order_outcome : first_on_cycle_of n (holds c) ≡ None → decomposed rs n hours (holds c) ≡ ordered rs n hours (before n arcs)
-    order_outcome e =
-        ap (decomposed rs n hours) closes
-        ∙ sym (ordered_is rs n hours (before n arcs) ∙ ap (after_circle rs n hours (before n arcs)) (ap (first_on_cycle_of n) (sym closes) ∙ e))
+  pub circle_of : {o : Option ℕ} → o ≡ first_on_cycle_of n (holds c) → first_on_cycle_of n (before n arcs) ≡ o
+  circle_of e = ap (first_on_cycle_of n) (sym closes) ∙ sym e
 
   -- and what is asked of an order is so of the closure
-  pub order_asks : Within n arcs → first_on_cycle_of n (holds c) ≡ None → Strict n (holds c) × Inside n c
-  order_asks within e = (closure_strict n arcs t table c closed e, closure_inside n t c n (table_inside n arcs t table within) closed)
+  pub order_asks : Inside n t → None ≡ first_on_cycle_of n (holds c) → Strict n (holds c) × Inside n c
+  order_asks within e = (closure_strict n arcs t table c closed (sym e), closure_inside n t c n within closed)

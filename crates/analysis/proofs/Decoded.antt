@@ -3,7 +3,7 @@ use Prim.Native.Nat.{ℕ, ◌*◌, ◌≤◌, ◌<◌}
 use mathlib.Core.Path.{◌≡◌, refl, sym, ap, ◌∙◌}
 use mathlib.Core.List.{List, []}
 use mathlib.Core.Bool.{◌&&◌}
-use Rattle.std.specs.Prelude.{Option, None, Some, option_map}
+use Rattle.std.specs.Prelude.{Option, None, Some, option_map, Ok, Err}
 use lib.ListN.{length, take}
 use Rattle.poset.specs.Areas.{overlay, padded, arc_bytes}
 use Rattle.poset.specs.Lists.{occurrences, ahead_in}
@@ -18,8 +18,8 @@ use Rattle.reader.specs.Answer.{reading}
 use Rattle.reader.specs.declared.Reading.{Reading}
 use Rattle.reader.proofs.Realized.{order_ready, order_precedes, order_inside, order_strict}
 use Rattle.analysis.specs.Outcome.{Outcome, arcs_fit, read_back, record_outcome}
-use Rattle.analysis.specs.Result.{refusal, Gives}
-use Rattle.analysis.specs.declared.Verdict.TheVariants as verdict
+use Rattle.analysis.specs.Result.{Gives}
+use Rattle.analysis.specs.declared.Refusal.TheVariants as refusal
 use Rattle.analysis.proofs.Crossing.{gives_refusal}
 use Rattle.analysis.proofs.Taking.{yielded, gives_short, gives_long}
 use Rattle.analysis.proofs.ReadBack.{record_some}
@@ -36,13 +36,13 @@ pub record Decoded (bytes : List ℕ) (x : Reading) : Type 0 where
   pub hours_is : x.hours ≡ padded hours
 
 pub gives_11 : (bytes area : List ℕ) → None ≡ option_map reading (decode bytes)
-    → Gives (record_outcome (length area) bytes) [] area (refusal verdict.NoRecord) [] area
+    → Gives (record_outcome (length area) bytes) [] area (Err refusal.NoRecord) [] area
 unfolding record_outcome
 gives_11 bytes area reads = go (decode bytes) refl reads
   where
     go : (o : Option (ℕ × Tree × List ℕ)) → decode bytes ≡ o → None ≡ option_map reading o
-        → Gives (record_outcome (length area) bytes) [] area (refusal verdict.NoRecord) [] area
-    go None e h = gives_refusal verdict.NoRecord (record_outcome (length area) bytes) [] area 11 0 0 0 0 (rw (record_outcome, e)) refl
+        → Gives (record_outcome (length area) bytes) [] area (Err refusal.NoRecord) [] area
+    go None e h = gives_refusal refusal.NoRecord (rw (record_outcome, e))
     go (Some y) e h = absurd (cc)
 
 module _ (bytes : List ℕ) (x : Reading) where
@@ -92,12 +92,17 @@ module _ (bytes : List ℕ) (x : Reading) where
             ∙ ap (λ (r : Rel). arcs_fit (length area) (yielded (length bytes) [] x.count d.hours r d.tree))
             (sym (order_precedes x.count d.tree d.spells.spans _ _ d.forward_is d.reverse_is after held))
 
-        pub back_10 : length area < 2 * count → Gives whole [] area (refusal verdict.ArcRoom) [] area
+        pub back_10 : length area < 2 * count → Gives whole [] area (Err refusal.ArcRoom) [] area
         back_10 = gives_short x.count d.hours (holds after) d.tree (length bytes) [] red same count counts [] area whole fitting
 
         pub back_0 : 2 * count ≤ length area → (area' : List ℕ) → area' ≡ overlay (arc_bytes (pairs_of x.count (holds red))) area
             → Gives whole [] area
-            (record { verdict = verdict.Accepted (length bytes) count x.groups; forward = x.forward; reverse = x.reverse; hours = x.hours }) [] area'
+            (Ok (record {
+              accepted = record { bytes = length bytes; arcs = count; groups = x.groups };
+              forward = x.forward;
+              reverse = x.reverse;
+              hours = x.hours;
+            })) [] area'
         unfolding overlay
         back_0 l area' listed =
             gives_long x.count d.hours (holds after) d.tree (length bytes) [] red same count counts [] area whole fitting l _ _ _ _ [] area'

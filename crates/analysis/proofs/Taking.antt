@@ -7,6 +7,7 @@ use Rattle.std.specs.Prelude.{Some}
 use native.Mathlib.Omega.{arith}
 use lib.Dec.{ltb}
 use lib.ListN.{length, take}
+use Rattle.std.specs.Prelude.{Ok, Err}
 use Rattle.poset.specs.Areas.{overlay, padded, arc_bytes}
 use Rattle.poset.specs.Order.{Rel, Strict, covers, pairs_of, reduction}
 use Rattle.poset.specs.Tree.{Tree, leaves, reversed, groups}
@@ -20,8 +21,8 @@ use Rattle.writer.specs.declared.writing.Written.{Written}
 use Rattle.writer.proofs.Spelling.{bytes_count, bytes_are}
 use Rattle.analysis.specs.Answer.{answer}
 use Rattle.analysis.specs.Outcome.{Rooms, Outcome, refuse, accept, arcs_fit, fitted, decomposed}
-use Rattle.analysis.specs.Result.{refusal, rooms, Gives}
-use Rattle.analysis.specs.declared.Verdict.TheVariants as verdict
+use Rattle.analysis.specs.Result.{rooms, Gives}
+use Rattle.analysis.specs.declared.Refusal.TheVariants as refusal
 use Rattle.analysis.proofs.Crossing.{gives_same, gives_refusal, tree_outcome}
 
 pub reduced_pairs : (n : ℕ) (r : Rel) (t : List (List ℕ)) → ((u v : ℕ) → holds t u v ≡ covers n r u v) → pairs_of n (holds t) ≡ reduction n r
@@ -77,14 +78,14 @@ module _ (n : ℕ) (hours : List ℕ) (r : Rel) (t : Tree) (size : ℕ) (written
   arcs_length : length (reduction n r) ≡ count
   arcs_length = ap length (sym (reduced_pairs n r red same)) ∙ sym counts
 
-  pub gives_short : length area < 2 * count → Gives whole bytes area (refusal verdict.ArcRoom) bytes area
+  pub gives_short : length area < 2 * count → Gives whole bytes area (Err refusal.ArcRoom) bytes area
   gives_short l =
-      gives_refusal verdict.ArcRoom whole bytes area 10 0 0 0 0
-      (fits ∙ short_arcs (length area) (yielded size written n hours r t) (omega (arith, arcs_length))) refl
+      gives_refusal refusal.ArcRoom (fits ∙ short_arcs (length area) (yielded size written n hours r t) (omega (arith, arcs_length)))
 
   pub gives_long : 2 * count ≤ length area → (k : ℕ) (forward reverse all bytes' area' : List ℕ) → k ≡ groups t → forward ≡ padded (leaves t)
       → reverse ≡ padded (reversed t) → all ≡ padded hours → bytes' ≡ overlay written bytes → area' ≡ overlay (arc_bytes (pairs_of n (holds red))) area
-      → Gives whole bytes area (record { verdict = verdict.Accepted size count k; forward = forward; reverse = reverse; hours = all }) bytes' area'
+      → Gives whole bytes area
+      (Ok (record { accepted = record { bytes = size; arcs = count; groups = k }; forward = forward; reverse = reverse; hours = all })) bytes' area'
   gives_long l k forward reverse all bytes' area' number forth back times spelt listed =
       gives_same (sym (fits ∙ long_arcs (length area) (yielded size written n hours r t) (omega (arith, arcs_length))))
       (record {
@@ -94,6 +95,7 @@ module _ (n : ℕ) (hours : List ℕ) (r : Rel) (t : Tree) (size : ℕ) (written
         forward_is = forth;
         reverse_is = back;
         hours_is = times;
+        refusal_is = tt;
       })
 
 -- an order taken apart
@@ -117,20 +119,20 @@ module _ (n : ℕ) (few : n ≤ 128) (hours : List ℕ) (r : Rel) (strict : Stri
       ∙ long_record (rooms bytes area) (accept n hours r t) (omega (arith, record_length))
       ∙ ap (λ (k : ℕ). arcs_fit (length area) (yielded k (layout n hours t) n hours r t)) record_length
 
-  pub gives_9 : length bytes < w.count → Gives whole bytes area (refusal verdict.RecordRoom) bytes area
+  pub gives_9 : length bytes < w.count → Gives whole bytes area (Err refusal.RecordRoom) bytes area
   unfolding accept
   gives_9 l =
-      gives_refusal verdict.RecordRoom whole bytes area 9 0 0 0 0
-      (accepted ∙ short_record (rooms bytes area) (accept n hours r t) (omega (arith, record_length))) refl
+      gives_refusal refusal.RecordRoom (accepted ∙ short_record (rooms bytes area) (accept n hours r t) (omega (arith, record_length)))
 
-  pub gives_10 : w.count ≤ length bytes → length area < 2 * count → Gives whole bytes area (refusal verdict.ArcRoom) bytes area
+  pub gives_10 : w.count ≤ length bytes → length area < 2 * count → Gives whole bytes area (Err refusal.ArcRoom) bytes area
   gives_10 l = gives_short n hours r t w.count (layout n hours t) red same count counts bytes area whole (fitting l)
 
   pub gives_0 : w.count ≤ length bytes → 2 * count ≤ length area → (all bytes' area' : List ℕ) → all ≡ padded hours
       → bytes' ≡ overlay (take w.count w.bytes) bytes
       → area' ≡ overlay (arc_bytes (pairs_of n (holds red))) area
       → Gives whole bytes area
-      (record { verdict = verdict.Accepted w.count count w.groups; forward = w.forward; reverse = w.reverse; hours = all }) bytes' area'
+      (Ok (record { accepted = record { bytes = w.count; arcs = count; groups = w.groups }; forward = w.forward; reverse = w.reverse; hours = all }))
+      bytes' area'
   gives_0 l m all bytes' area' times eb ea =
       gives_long n hours r t w.count (layout n hours t) red same count counts bytes area whole (fitting l) m _ _ _ all bytes' area'
       (ap (λ (w : Written). w.groups) is) (ap (λ (w : Written). w.forward) is) (ap (λ (w : Written). w.reverse) is) times

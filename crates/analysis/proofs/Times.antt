@@ -16,8 +16,7 @@ use Rattle.relation.specs.Arcs.{place_from, place}
 use Rattle.record.specs.Bits.{AllBelow, bits, bytes_of}
 use Rattle.record.specs.Layout.{hours_bits, most_hours, layout}
 use Rattle.record.proofs.Entries.{entry_padded, padded_below, tree_agree}
-use Rattle.std.specs.Prelude.{Option as Found}
-use Rattle.writer.specs.Written.{written}
+use Rattle.writer.specs.Written.{record_of}
 use Rattle.writer.specs.declared.writing.Written.{Written}
 use Rattle.writer.proofs.Shaping.{drop_replicate}
 use Rattle.analysis.proofs.Places.{place_none}
@@ -70,33 +69,20 @@ pub large_below : (hours : List ℕ) → place (ltb most_hours) hours ≡ None �
 large_below hours e h m =
     elim (dec_lt most_hours h) [ yes l ↦ absurd (place_none (ltb most_hours) _ (ltb_is most_hours) hours e h m l) | no l ↦ omega arith ]
 
--- An array with an entry for each job.
-
-overlay_padded : (hours : List ℕ) → overlay hours (replicate 128 0) ≡ padded hours
-unfolding overlay
-overlay_padded hours = ap (λ (l : List ℕ). hours ++ l) (drop_replicate (length hours) 128)
-
-pub padded_all : (hours all : List ℕ) (i : ℕ) → Copied hours (replicate 128 0) (length hours) i all → length hours ≤ i → all ≡ padded hours
-padded_all hours all i c l =
-    copy_end hours (replicate 128 0) (length hours) i all c l (omega arith)
-    ∙ ap (λ (h : List ℕ). overlay h (replicate 128 0)) (take_all (length hours) hours (omega arith))
-    ∙ overlay_padded hours
-
--- so a record is that of the hours
+-- An array with an entry for each job. A record of it is that of the hours.
 
 layout_padded : (n : ℕ) (hours : List ℕ) (t : Tree) → layout n (padded hours) t ≡ layout n hours t
 unfolding layout
 layout_padded n hours t =
     ap (λ (l : List ℕ). bytes_of (bits 7 (n - 1) ++ l)) (tree_agree (padded hours) hours t (λ j _. entry_padded hours (128 - length hours) j))
 
-written_padded : (n : ℕ) (hours : List ℕ) (o : Option Tree) → written n (padded hours) o ≡ written n hours o
-written_padded n hours None = refl
-written_padded n hours (Some t) = rw (layout_padded n hours t)
+written_padded : (n : ℕ) (hours : List ℕ) (t : Tree) → record_of n (padded hours) t ≡ record_of n hours t
+written_padded n hours t = rw (layout_padded n hours t)
 
 -- an array of all entries, of which a record is written
 module _ (hours : List ℕ) {all : List ℕ} (is : all ≡ padded hours) where
   pub all_below_lem : AllBelow (2 ^ hours_bits) hours → AllBelow (2 ^ hours_bits) all
   all_below_lem low = subst (AllBelow (2 ^ hours_bits)) (sym is) (padded_below hours low)
 
-  pub written_all : (n : ℕ) (o : Option Tree) {w : Found Written} → w ≡ written n all o → w ≡ written n hours o
-  written_all n o e = e ∙ ap (λ (h : List ℕ). written n h o) is ∙ written_padded n hours o
+  pub written_all : (n : ℕ) (t : Tree) {w : Written} → w ≡ record_of n all t → w ≡ record_of n hours t
+  written_all n t e = e ∙ ap (λ (h : List ℕ). record_of n h t) is ∙ written_padded n hours t

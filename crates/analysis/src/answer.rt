@@ -1,9 +1,9 @@
 //! An answer in the papers' numbers.
 ghost use Rattle.std.specs.Prelude.{◌≡◌};
-ghost use Rattle.analysis.specs.Answer.{answer, numbers_of};
-ghost use Rattle.analysis.specs.Result.{answer_of, answer_told, accepted_answer, refusal_answer, result_answer};
+ghost use Rattle.analysis.specs.Answer.{answer};
+ghost use Rattle.analysis.specs.Result.{answer_of, answer_told, accepted_answer, refusal_answer, result_answer, analysis_answer};
 
-use crate::{Accepted, Refusal, Verdict};
+use crate::{Accepted, Analysis, Refusal, Verdict};
 
 // The number, 0 for acceptance, and the four places; those that are not named are 0.
 #[derive(Clone, Copy)]
@@ -69,25 +69,38 @@ impl From<Result<Accepted, Refusal>> for Answer {
     }
 }
 
-// The number and the four places.
-pub fn numbers(verdict: Verdict) -> [usize; 5]
-    ensures { result ≡ numbers_of (answer_of verdict) }
-{
-    match verdict {
-        Verdict::Accepted(bytes, arcs, groups) => [0, bytes, arcs, groups, 0],
-        Verdict::Long => [1, 0, 0, 0, 0],
-        Verdict::Broken(at) => [2, at, 0, 0, 0],
-        Verdict::Count => [3, 0, 0, 0, 0],
-        Verdict::Many => [4, 0, 0, 0, 0],
-        Verdict::Outside(i) => [5, i, 0, 0, 0],
-        Verdict::Loop(i) => [6, i, 0, 0, 0],
-        Verdict::Cycle(u) => [7, u, 0, 0, 0],
-        Verdict::Crossed(a, b, c, d) => [8, a, b, c, d],
-        Verdict::RecordRoom => [9, 0, 0, 0, 0],
-        Verdict::ArcRoom => [10, 0, 0, 0, 0],
-        Verdict::NoRecord => [11, 0, 0, 0, 0],
-        Verdict::HoursLength => [12, 0, 0, 0, 0],
-        Verdict::HoursLarge(j) => [13, j, 0, 0, 0],
-        Verdict::NoJob => [14, 0, 0, 0, 0],
+// Beside the one above: a generic one for both would say by cases what is one equation here.
+impl From<Result<Analysis, Refusal>> for Answer {
+    ghost from_gives = { λ outcome told. answer_told told ≡ analysis_answer outcome };
+
+    fn from(outcome: Result<Analysis, Refusal>) -> Answer {
+        match outcome {
+            Ok(analysis) => Answer::from(analysis.accepted),
+            Err(refusal) => Answer::from(refusal),
+        }
+    }
+}
+
+impl From<Verdict> for Answer {
+    ghost from_gives = { λ verdict told. answer_told told ≡ answer_of verdict };
+
+    fn from(verdict: Verdict) -> Answer {
+        match verdict {
+            Verdict::Accepted(bytes, arcs, groups) => told(0, bytes, arcs, groups, 0),
+            Verdict::Long => told(1, 0, 0, 0, 0),
+            Verdict::Broken(at) => told(2, at, 0, 0, 0),
+            Verdict::Count => told(3, 0, 0, 0, 0),
+            Verdict::Many => told(4, 0, 0, 0, 0),
+            Verdict::Outside(i) => told(5, i, 0, 0, 0),
+            Verdict::Loop(i) => told(6, i, 0, 0, 0),
+            Verdict::Cycle(u) => told(7, u, 0, 0, 0),
+            Verdict::Crossed(a, b, c, d) => told(8, a, b, c, d),
+            Verdict::RecordRoom => told(9, 0, 0, 0, 0),
+            Verdict::ArcRoom => told(10, 0, 0, 0, 0),
+            Verdict::NoRecord => told(11, 0, 0, 0, 0),
+            Verdict::HoursLength => told(12, 0, 0, 0, 0),
+            Verdict::HoursLarge(j) => told(13, j, 0, 0, 0),
+            Verdict::NoJob => told(14, 0, 0, 0, 0),
+        }
     }
 }

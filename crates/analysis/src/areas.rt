@@ -8,7 +8,5 @@ pub fn copy(bytes: &[u8; record::RECORD_ROOM], count: usize, area: &mut [u8])
     requires { (count ≤ most_record_bytes) × (length bytes.now ≡ most_record_bytes) × (count ≤ length area.old) }
     ensures { area.new ≡ overlay (take count bytes.now) area.old }
 {
-    for i in 0..count {
-        area[i] = bytes[i];
-    }
+    area[..count].copy_from_slice(&bytes[..count]);
 }

@@ -47,8 +47,6 @@ pub fn padded(hours: &[u16]) -> [u16; 128]
     ensures { result ≡ padded hours.now }
 {
     let mut all = [0; 128];
-    for i in 0..hours.len() {
-        all[i] = hours[i];
-    }
+    all[..hours.len()].copy_from_slice(hours);
     all
 }

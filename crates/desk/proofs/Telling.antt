@@ -2,11 +2,12 @@
 use Prim.Native.Nat.{ℕ}
 use mathlib.Core.Path.{◌≡◌, ap, ◌∙◌}
 use mathlib.Core.List.{List}
-use lib.ListN.{get_or}
-use Rattle.analysis.specs.Answer.{Answer, answer, numbers_of}
+use Rattle.std.specs.Prelude.{Result}
+use Rattle.analysis.specs.Answer.{Answer}
 use Rattle.analysis.specs.Outcome.{Outcome}
-use Rattle.analysis.specs.Result.{answer_of, Gives}
+use Rattle.analysis.specs.Result.{answer_of, analysis_answer, Gives}
 use Rattle.analysis.specs.declared.Analysis.{Analysis}
+use Rattle.analysis.specs.declared.Refusal.{Refusal}
 use Rattle.desk.specs.Packed.{packed, cut}
 use Rattle.longest.specs.Outcome.{RunOutcome, Shows as ShowsRun}
 use Rattle.longest.specs.declared.LongestRun.{LongestRun}
@@ -17,22 +18,14 @@ use Rattle.reason.specs.declared.Reason.{Reason}
 use Rattle.desk.specs.Told.{Told, RunTold, GangsTold, ReasonTold}
 use Rattle.desk.proofs.Packing.{Narrow, cut_narrow}
 
--- an answer read from its number and places in a row
-
-abbrev pub in_row : List ℕ → Answer
-in_row l = answer (get_or l 0 0) (get_or l 1 0) (get_or l 2 0) (get_or l 3 0) (get_or l 4 0)
-
-pub packed_in_row : {a : Answer} {told : List ℕ} → told ≡ numbers_of a → {r : ℕ} → r ≡ packed (cut (in_row told)) → r ≡ packed (cut a)
-packed_in_row e h = h ∙ ap (λ (l : List ℕ). packed (cut (in_row l))) e
-
 -- the verdict of an outcome, of which nothing is cut off
 
 pub answer_told : {a b : Answer} {r : ℕ} → a ≡ b → Narrow b → r ≡ packed (cut a) → r ≡ packed b
 answer_told {b = b} e w h = h ∙ ap (λ x. packed (cut x)) e ∙ ap packed (cut_narrow b w)
 
 pub gives_told
-    : {o : Outcome} {bytes area bytes' area' : List ℕ} {a : Analysis} {r : ℕ} → Gives o bytes area a bytes' area' → Narrow o.verdict
-    → r ≡ packed (cut (answer_of a.verdict)) → Told o bytes area r bytes' area'
+    : {o : Outcome} {bytes area bytes' area' : List ℕ} {a : Result Analysis Refusal} {r : ℕ} → Gives o bytes area a bytes' area' → Narrow o.verdict
+    → r ≡ packed (cut (analysis_answer a)) → Told o bytes area r bytes' area'
 gives_told g w h = record {
   answers = answer_told g.answers w h;
   record_is = g.record_is;

@@ -14,14 +14,15 @@ ghost use Rattle.preview.specs.Outcome.{previewed};
 ghost use Rattle.desk.specs.Packed.{packed};
 ghost use Rattle.desk.specs.Told.{Told, RunTold, GangsTold, ReasonTold};
 
+use analysis::answer::Answer;
+
 // The analysis of a sheet: the record and the reduced orders into the two areas.
 pub fn ordersheet_analyse(sheet: &[u8], bytes: &mut [u8], area: &mut [u8]) -> u64
     ensures { Told (sheet_outcome (rooms bytes.old area.old) sheet.now)
         bytes.old area.old result bytes.new area.new }
 {
     let found = analysis::analyse_sheet(sheet, bytes, area);
-    let verdict = found.verdict;
-    answer::packed(verdict)
+    answer::packed(Answer::from(found))
 }
 
 // The reading of a record: the reduced orders into the area.
@@ -30,8 +31,7 @@ pub fn ordersheet_read(bytes: &[u8], area: &mut [u8]) -> u64
         [] area.old result [] area.new }
 {
     let found = analysis::analyse_record(bytes, area);
-    let verdict = found.verdict;
-    answer::packed(verdict)
+    answer::packed(Answer::from(found))
 }
 
 // The longest run: its answer, the total of hours, how many jobs it has, and these, earliest first, then zeros.
@@ -52,7 +52,7 @@ pub fn ordersheet_longest_run(bytes: &[u8]) -> Run
     let verdict = found.verdict;
     let jobs = found.jobs;
     Run {
-        answer: answer::packed(verdict),
+        answer: answer::packed(Answer::from(verdict)),
         total: found.total as u64,
         count: found.count as u64,
         jobs,
@@ -78,7 +78,7 @@ pub fn ordersheet_gangs(bytes: &[u8]) -> Plan
     let hours = plan.hours;
     let gangs = plan.gangs;
     Plan {
-        answer: answer::packed(verdict),
+        answer: answer::packed(Answer::from(verdict)),
         count: plan.count as u64,
         hours,
         gangs,
@@ -102,7 +102,7 @@ pub fn ordersheet_reason(bytes: &[u8], first: u16, second: u16) -> Reason
     let found = reason::reason_between(bytes, first, second);
     let verdict = found.verdict;
     Reason {
-        answer: answer::packed(verdict),
+        answer: answer::packed(Answer::from(verdict)),
         rule: found.rule as u64,
         position: found.position as u64,
         jobs: found.jobs as u64,
@@ -113,6 +113,6 @@ pub fn ordersheet_reason(bytes: &[u8], first: u16, second: u16) -> Reason
 pub fn ordersheet_preview(count: u16, list: &[u16], hours: &[u16], first: u16, second: u16) -> u64
     ensures { result ≡ packed (previewed count hours.now list.now first second) }
 {
-    let verdict = preview::preview_order(count, list, hours, first, second);
-    answer::packed(verdict)
+    let found = preview::preview_order(count, list, hours, first, second);
+    answer::packed(Answer::from(found))
 }

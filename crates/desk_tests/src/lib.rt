@@ -3,54 +3,50 @@
 
 #![tactic(auto)]
 
-ghost use Rattle.std.specs.Prelude.{◌≡◌, [], length};
+ghost use Rattle.std.specs.Prelude.{◌≡◌, [], ◌++◌, length, take, drop};
 ghost use Rattle.poset.specs.Areas.{padded};
 ghost use Rattle.analysis.specs.Outcome.{sheet_outcome, pair_outcome, record_outcome};
-ghost use Rattle.analysis.specs.Result.{answer_of, rooms};
+ghost use Rattle.analysis.specs.Result.{analysis_answer, rooms};
 ghost use Rattle.desk.specs.Packed.{packed, cut};
-ghost use Rattle.desk_tests.specs.Shown.{entered, Shown};
+ghost use Rattle.desk_tests.specs.Shown.{forward_of, reverse_of, hours_of, entered, Shown};
 
-use analysis::Analysis;
+use analysis::answer::Answer;
+use analysis::{Analysis, Refusal};
 use desk::answer;
 
-// As many entries of a sequence as the area has room for.
-fn enter(entries: [u8; 128], area: &mut [u8])
-    ensures { area.new ≡ entered entries area.old }
+// As many of the entries as the area has room for.
+fn enter<T: Copy>(entries: &[T], area: &mut [T])
+    ensures { area.new ≡ take (length area.old) entries.now ++ drop (length entries.now) area.old }
 {
-    let mut count = area.len();
-    if 128 < count {
-        count = 128;
-    }
-    for i in 0..count {
-        area[i] = entries[i];
-    }
+    let count = entries.len().min(area.len());
+    area[..count].copy_from_slice(&entries[..count]);
 }
 
-// As many entries of the hours as the area has room for.
-fn enter_hours(entries: [u16; 128], area: &mut [u16])
-    ensures { area.new ≡ entered entries area.old }
+// Both sequences and the hours, zeros of a refusal.
+fn entries(found: Result<Analysis, Refusal>) -> ([u8; 128], [u8; 128], [u16; 128])
+    ensures { result ≡ (forward_of found, reverse_of found, hours_of found) }
 {
-    let mut count = area.len();
-    if 128 < count {
-        count = 128;
-    }
-    for i in 0..count {
-        area[i] = entries[i];
+    match found {
+        Ok(made) => {
+            let forward = made.forward;
+            let reverse = made.reverse;
+            let hours = made.hours;
+            (forward, reverse, hours)
+        }
+        Err(_) => ([0; 128], [0; 128], [0; 128]),
     }
 }
 
 // The sequences into two areas, and the answer as one number.
-fn shown(found: Analysis, forward: &mut [u8], reverse: &mut [u8]) -> u64
-    ensures { (result ≡ packed (cut (answer_of found.verdict)))
-        × (forward.new ≡ entered found.forward forward.old)
-        × (reverse.new ≡ entered found.reverse reverse.old) }
+fn shown(found: Result<Analysis, Refusal>, forward: &mut [u8], reverse: &mut [u8]) -> u64
+    ensures { (result ≡ packed (cut (analysis_answer found)))
+        × (forward.new ≡ entered (forward_of found) forward.old)
+        × (reverse.new ≡ entered (reverse_of found) reverse.old) }
 {
-    let ahead = found.forward;
-    let back = found.reverse;
-    let verdict = found.verdict;
-    enter(ahead, forward);
-    enter(back, reverse);
-    answer::packed(verdict)
+    let (ahead, back, _) = entries(found);
+    enter(&ahead, forward);
+    enter(&back, reverse);
+    answer::packed(Answer::from(found))
 }
 
 #[unsafe(no_mangle)]
@@ -102,7 +98,7 @@ pub extern "C" fn ordersheet_test_read(
         result [] area.new forward.new reverse.new }
 {
     let found = analysis::analyse_record(bytes, area);
-    let times = found.hours;
-    enter_hours(times, hours);
+    let (_, _, times) = entries(found);
+    enter(&times, hours);
     shown(found, forward, reverse)
 }

@@ -2,6 +2,7 @@
 
 #![tactic(auto)]
 
+use analysis::answer::Answer;
 use printer::outcome;
 use std::env::{Env, FillError};
 use std::fmt::Display;
@@ -24,17 +25,33 @@ fn line<T: Display>(rt: &impl Print, word: &str, entries: &[T]) -> io::Result<()
 }
 
 // What a record gives: the answer's number and places, the reduced orders as they are written, both sequences and the
-// hours whole. More orders than an area holds are not printed.
+// hours whole, zeros of a refusal. More orders than an area holds are not printed.
 fn print_record(rt: &impl Print, record: &[u8]) -> io::Result<()> {
     let mut area = [0u8; 8192];
     let read = analysis::analyse_record(record, &mut area);
-    let told = analysis::answer::numbers(read.verdict);
-    let arcs = told[2].min(4096);
-    line(rt, "answer", &told)?;
+    let told = Answer::from(read);
+    let (forward, reverse, hours) = match read {
+        Ok(read) => {
+            let forward = read.forward;
+            let reverse = read.reverse;
+            let hours = read.hours;
+            (forward, reverse, hours)
+        }
+        Err(_) => ([0; 128], [0; 128], [0; 128]),
+    };
+    let places = [
+        told.number,
+        told.first,
+        told.second,
+        told.third,
+        told.fourth,
+    ];
+    let arcs = told.second.min(4096);
+    line(rt, "answer", &places)?;
     line(rt, "arcs", &area[..2 * arcs])?;
-    line(rt, "forward", &read.forward)?;
-    line(rt, "reverse", &read.reverse)?;
-    line(rt, "hours", &read.hours)
+    line(rt, "forward", &forward)?;
+    line(rt, "reverse", &reverse)?;
+    line(rt, "hours", &hours)
 }
 
 // A record's name begins with r.

@@ -4,6 +4,9 @@ use mathlib.Core.Path.{◌≡◌, sym, ap, ◌∙◌}
 use mathlib.Core.List.{List}
 use Rattle.std.specs.Prelude.{Some}
 use lib.ListN.{length}
+use Rattle.std.specs.Prelude.{Result, Err}
+use Rattle.std.specs.Result.{IsErrAnd}
+use Rattle.std.proofs.lemmas.Result.{err_from_is_err_and}
 use Rattle.poset.specs.Order.{Rel, Strict, covers, pairs_of}
 use Rattle.poset.specs.Tree.{Tree}
 use Rattle.poset.specs.Decompose.{tree_of}
@@ -14,6 +17,9 @@ use Rattle.writer.specs.declared.writing.Written.{Written}
 use Rattle.writer.proofs.Spelling.{bytes_count}
 use Rattle.analysis.specs.Answer.{answer}
 use Rattle.analysis.specs.Outcome.{roomy, Outcome, refuse, accept, decomposed}
+use Rattle.analysis.specs.Result.{refused, result_answer}
+use Rattle.analysis.specs.declared.Accepted.{Accepted}
+use Rattle.analysis.specs.declared.Refusal.{Refusal}
 use Rattle.analysis.proofs.Crossing.{tree_outcome}
 use Rattle.analysis.proofs.Taking.{reduced_pairs}
 use Rattle.preview.proofs.Rooms.{fits_roomy}
@@ -24,6 +30,13 @@ same_answer e = ap (λ (o : Outcome). o.verdict) e
 pub told_refused : {o : Outcome} {k a b c d : ℕ} → o ≡ refuse k a b c d → answer k a b c d ≡ o.verdict
 unfolding refuse
 told_refused e = same_answer (sym e)
+
+-- what a `?` hands back of a step that refuses
+pub told_err : {o : Outcome} (r : Result Accepted Refusal) (e : Refusal) → IsErrAnd r (λ y. y ≡ e) → o ≡ refused e → result_answer r ≡ o.verdict
+unfolding refuse
+told_err r e is h =
+    let p = err_from_is_err_and r is in
+    ap result_answer (p.1 ∙ ap Err p.2) ∙ same_answer (sym h)
 
 -- an order that a tree means, and what is counted of its record and its reduction
 pub told_accepted

@@ -5,6 +5,7 @@ use mathlib.Core.Bool.{true}
 use mathlib.Core.List.{List, map}
 use mathlib.Core.Logic.{◌⊎◌, ◌↔◌, ◌≢◌}
 use lib.ListN.{length}
+use Rattle.std.specs.Prelude.{Result}
 use Rattle.poset.specs.Order.{Run, before, HasN, reduction}
 use Rattle.poset.specs.Tree.{Tree, groups, Means, canonical}
 use Rattle.relation.specs.Arcs.{pairs}
@@ -12,8 +13,9 @@ use Rattle.record.specs.Layout.{layout}
 use Rattle.analysis.specs.Answer.{answer}
 use Rattle.analysis.specs.Claims.{Named, Unnamed}
 use Rattle.analysis.specs.Outcome.{roomy, pair_outcome}
-use Rattle.analysis.specs.Result.{answer_of, rooms, Gives}
+use Rattle.analysis.specs.Result.{analysis_answer, rooms, Gives}
 use Rattle.analysis.specs.declared.Analysis.{Analysis}
+use Rattle.analysis.specs.declared.Refusal.{Refusal}
 use Rattle.preview.specs.Outcome.{with_order, previewed, orders_with, PreviewNumber}
 use Rattle.preview.proofs.Numbers
 use Rattle.preview.proofs.Calls
@@ -24,29 +26,29 @@ use Rattle.preview.proofs.Examples.{Example, examples}
 -- Of a call of `analyse_pairs` for the list with the order at its end, with any two areas: what it hands back is, by its promise, what `Gives` says.
 
 module _
-    (n : ℕ) (hours list : List ℕ) (first second : ℕ) {bytes area bytes' area' : List ℕ} {r : Analysis}
+    (n : ℕ) (hours list : List ℕ) (first second : ℕ) {bytes area bytes' area' : List ℕ} {r : Result Analysis Refusal}
     (call : Gives (pair_outcome (rooms bytes area) n hours (with_order list first second)) bytes area r bytes' area') where
   -- if the preview refuses, so does the analysis, with the same number and places, whatever the areas are, and they stay as they were
   pub preview_refuses : (previewed n hours list first second).number ≢ 0
-      → (answer_of r.verdict ≡ previewed n hours list first second) × (bytes' ≡ bytes) × (area' ≡ area)
+      → (analysis_answer r ≡ previewed n hours list first second) × (bytes' ≡ bytes) × (area' ≡ area)
   preview_refuses = Calls.call_refuses n hours list first second call
 
   -- if it accepts, so does the analysis, with the same places, where the areas are as long as these places say
   pub preview_accepts : (previewed n hours list first second).number ≡ 0 → (previewed n hours list first second).first ≤ length bytes
-      → 2 * (previewed n hours list first second).second ≤ length area → answer_of r.verdict ≡ previewed n hours list first second
+      → 2 * (previewed n hours list first second).second ≤ length area → analysis_answer r ≡ previewed n hours list first second
   preview_accepts = Calls.call_accepts n hours list first second call
 
   -- where they are not, it is 9 or 10
   pub preview_accepts_9 : (previewed n hours list first second).number ≡ 0 → length bytes < (previewed n hours list first second).first
-      → answer_of r.verdict ≡ answer 9 0 0 0 0
+      → analysis_answer r ≡ answer 9 0 0 0 0
   preview_accepts_9 = Calls.call_9 n hours list first second call
 
   pub preview_accepts_10 : (previewed n hours list first second).number ≡ 0 → (previewed n hours list first second).first ≤ length bytes
-      → length area < 2 * (previewed n hours list first second).second → answer_of r.verdict ≡ answer 10 0 0 0 0
+      → length area < 2 * (previewed n hours list first second).second → analysis_answer r ≡ answer 10 0 0 0 0
   preview_accepts_10 = Calls.call_10 n hours list first second call
 
   -- and whatever the analysis answers beside 9 and 10, the preview had answered
-  pub preview_agrees : (answer_of r.verdict).number ≢ 9 → (answer_of r.verdict).number ≢ 10 → answer_of r.verdict ≡ previewed n hours list first second
+  pub preview_agrees : (analysis_answer r).number ≢ 9 → (analysis_answer r).number ≢ 10 → analysis_answer r ≡ previewed n hours list first second
   preview_agrees = Calls.call_agrees n hours list first second call
 
 -- The number is that of the first sentence in checking order that holds of the list with the order, up to 8, or 0; the places are those that it names.

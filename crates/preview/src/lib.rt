@@ -7,17 +7,23 @@ mod limits;
 mod order;
 
 ghost use Rattle.std.specs.Prelude.{◌≡◌};
-ghost use Rattle.analysis.specs.Result.{answer_of};
+ghost use Rattle.analysis.specs.Result.{result_answer};
 ghost use Rattle.preview.specs.Outcome.{previewed};
 
-use analysis::Verdict;
+use analysis::{Accepted, Refusal};
 
 // The answer of the analysis of the list with the order at its end, areas long enough. The list is not copied, and no area is written.
-pub fn preview_order(count: u16, list: &[u16], hours: &[u16], first: u16, second: u16) -> Verdict
-    ensures { answer_of result ≡ previewed count hours.now list.now first second }
+pub fn preview_order(
+    count: u16,
+    list: &[u16],
+    hours: &[u16],
+    first: u16,
+    second: u16,
+) -> Result<Accepted, Refusal>
+    ensures { result_answer result ≡ previewed count hours.now list.now first second }
 {
     if list.len() % 2 != 0 {
-        return Verdict::Broken(0);
+        return Err(Refusal::Broken(0));
     }
     let one = [first, second];
     limits::of_count(count, list, &one, hours)

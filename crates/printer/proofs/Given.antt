@@ -6,6 +6,7 @@ use native.Mathlib.Omega.{arith}
 use lib.ListN.{length, take, drop, get_or, length-take, get_or-append}
 use lib.Seq.{take_at}
 use borrow.Author.Tests.{ne_eqb}
+use Rattle.std.specs.Prelude.{Result, Ok}
 use Rattle.poset.specs.Areas.{overlay, arc_bytes}
 use Rattle.poset.specs.Order.{Arc, before}
 use Rattle.poset.specs.Tree.{leaves, groups}
@@ -16,14 +17,18 @@ use Rattle.record.specs.Layout.{leaf_bits, most_record_bytes}
 use Rattle.record.proofs.Sizes.{length_leaves}
 use Rattle.record.proofs.Theorems.{layout_length}
 use Rattle.writer.proofs.Worklist.{reversed_length}
-use Rattle.analysis.specs.Answer.{answer, numbers_of}
+use Rattle.analysis.specs.Answer.{Answer, answer}
 use Rattle.analysis.specs.Outcome.{roomy, Outcome, refuse, sheet_outcome}
-use Rattle.analysis.specs.Result.{answer_of, rooms, Gives}
+use Rattle.analysis.specs.Result.{accepted_answer, answer_told, refusal_answer, refused, rooms, Gives}
+use Rattle.analysis.specs.declared.Accepted.{Accepted}
 use Rattle.analysis.specs.declared.Analysis.{Analysis}
+use Rattle.analysis.specs.declared.Refusal.{Refusal}
+use Rattle.analysis.specs.declared.answer.Answer.{Answer as Told}
 use Rattle.analysis.specs.Claims.{Yield}
 use Rattle.analysis.proofs.Steps.{pairs_bytes}
 use Rattle.analysis.proofs.Inputs.{sheet_fate}
 use Rattle.analysis.proofs.Answers.{sheet_yield}
+use Rattle.analysis.proofs.Telling.{refusal_number}
 use Rattle.analysis.proofs.Crossing.{gives_same}
 use Rattle.printer.specs.Text.{accepted, accepted_text, refused_text, printed}
 use Rattle.printer.specs.Buffer.{Limits}
@@ -51,22 +56,25 @@ printed_same
 unfolding printed accepted_text
 printed_same o p v b a f r = rw (v, b, a, f, r)
 
--- an acceptance, taken out of the numbers told, the areas and the sequences
+-- an acceptance, taken out of what it counts, the areas and the sequences
 
-pub record Parts (o : Outcome) (told bytes area forward reverse : List ℕ) : Type 0 where
-  pub bytes_are : Front (get_or told 1 0) bytes o.bytes
-  pub arcs_are : Front (2 * get_or told 2 0) area (arc_bytes o.arcs)
+pub record Parts (o : Outcome) (told : Accepted) (bytes area forward reverse : List ℕ) : Type 0 where
+  pub bytes_are : Front (told.bytes) bytes o.bytes
+  pub arcs_are : Front (2 * told.arcs) area (arc_bytes o.arcs)
   pub forward_are : Front (get_or bytes 0 0 / 2 + 1) forward o.forward
   pub reverse_are : Front (get_or bytes 0 0 / 2 + 1) reverse o.reverse
-  pub few_bytes : get_or told 1 0 ≤ most_record_bytes
-  pub few_arcs : get_or told 2 0 ≤ 4096
+  pub few_bytes : told.bytes ≤ most_record_bytes
+  pub few_arcs : told.arcs ≤ 4096
   pub few_jobs : get_or bytes 0 0 / 2 + 1 ≤ 128
-  pub verdict_is : answer 0 (get_or told 1 0) (get_or told 2 0) (get_or told 3 0) 0 ≡ o.verdict
+  pub verdict_is : answer 0 (told.bytes) (told.arcs) (told.groups) 0 ≡ o.verdict
 
 module _ {n : ℕ} {hours : List ℕ} {arcs : List Arc} {o : Outcome} (y : Yield n hours arcs o) {bytes area : List ℕ} {r : Analysis} {bytes' area' : List ℕ}
-    (g : Gives o bytes area r bytes' area') {told : List ℕ} (t : told ≡ numbers_of (answer_of r.verdict)) where
-  numbers : told ≡ numbers_of (answer 0 (length o.bytes) (length o.arcs) (groups y.tree) 0)
-  numbers = t ∙ ap numbers_of (g.answers ∙ y.verdict_is)
+    (g : Gives o bytes area (Ok r) bytes' area') where
+  abbrev told : Accepted
+  told = r.accepted
+
+  counts : accepted_answer told ≡ answer 0 (length o.bytes) (length o.arcs) (groups y.tree) 0
+  counts = g.answers ∙ y.verdict_is
 
   long : (length o.bytes ≡ (7 + leaf_bits * n + 9 * groups y.tree + 7) / 8) × (length o.bytes ≤ most_record_bytes)
   long =
@@ -90,8 +98,8 @@ module _ {n : ℕ} {hours : List ℕ} {arcs : List Arc} {o : Outcome} (y : Yield
   unfolding overlay
   parts =
       let few = reduction_fits n (before n arcs) y.spells.most (tree_is_strict n (before n arcs) y.tree y.means) in
-      let counted : get_or told 1 0 ≡ length o.bytes = ap (λ (l : List ℕ). get_or l 1 0) numbers in
-      let listed : get_or told 2 0 ≡ length o.arcs = ap (λ (l : List ℕ). get_or l 2 0) numbers in
+      let counted : told.bytes ≡ length o.bytes = ap (λ (a : Answer). a.first) counts in
+      let listed : told.arcs ≡ length o.arcs = ap (λ (a : Answer). a.second) counts in
       record {
         bytes_are = front o.bytes _ g.record_is counted;
         arcs_are = front (arc_bytes o.arcs) _ g.arcs_are (ap (λ (k : ℕ). 2 * k) listed ∙ sym (bytes_length o.arcs));
@@ -100,38 +108,33 @@ module _ {n : ℕ} {hours : List ℕ} {arcs : List Arc} {o : Outcome} (y : Yield
         few_bytes = omega (arith, long.1);
         few_arcs = omega (arith, ap length y.arcs_are);
         few_jobs = omega (arith, jobs, y.spells.most);
-        verdict_is = ap (λ (l : List ℕ). answer 0 (get_or l 1 0) (get_or l 2 0) (get_or l 3 0) 0) numbers ∙ sym y.verdict_is;
+        verdict_is = g.answers;
       }
 
 -- of the analysis of a sheet, where the areas are those that the program lends
-pub sheet_gives : (s : List ℕ) {bytes area bytes' area' : List ℕ} {r : Analysis} → Gives (sheet_outcome (rooms bytes area) s) bytes area r bytes' area'
+pub sheet_gives : (s : List ℕ) {bytes area bytes' area' : List ℕ} {r : Result Analysis Refusal} → Gives (sheet_outcome (rooms bytes area) s) bytes area r bytes' area'
     → length bytes ≡ most_record_bytes → length area ≡ 8192 → Gives (sheet_outcome roomy s) bytes area r bytes' area'
 sheet_gives s g p q = gives_same (ap₂ (λ (a b : ℕ). sheet_outcome (record { record_room = a; arc_room = b }) s) p q) g
 
-pub sheet_parts : (s : List ℕ) {bytes area bytes' area' told : List ℕ} {r : Analysis} → Gives (sheet_outcome roomy s) bytes area r bytes' area'
-    → told ≡ numbers_of (answer_of r.verdict) → get_or told 0 0 ≡ 0 → Parts (sheet_outcome roomy s) told bytes' area' r.forward r.reverse
-sheet_parts s g t z =
-    let zero : (sheet_outcome roomy s).verdict.number ≡ 0 =
-    sym (ap (λ (l : List ℕ). get_or l 0 0) (t ∙ ap numbers_of g.answers)) ∙ z in
-    parts (sheet_yield roomy s (sheet_fate roomy s) zero).4 g t
+pub sheet_parts : (s : List ℕ) {bytes area bytes' area' : List ℕ} {r : Analysis} → Gives (sheet_outcome roomy s) bytes area (Ok r) bytes' area'
+    → Parts (sheet_outcome roomy s) r.accepted bytes' area' r.forward r.reverse
+sheet_parts s g =
+    let zero : (sheet_outcome roomy s).verdict.number ≡ 0 = sym (ap (λ (a : Answer). a.number) g.answers) in
+    parts (sheet_yield roomy s (sheet_fate roomy s) zero).4 g
 
 -- what is printed
 
-printed_refused : (o : Outcome) → (o.verdict.number ≡ 0 → ⊥) → printed o ≡ refused_text o.verdict
-unfolding printed
-printed_refused o z = rw (ne_eqb o.verdict.number 0 z, printed)
+-- of a refusal, by its number and places
+pub refused_whole : {o : Outcome} {told : Told} (r : Refusal) → answer_told told ≡ refusal_answer r → o ≡ refused r
+    → printed (refuse told.number told.first told.second told.third told.fourth) ≡ printed o
+refused_whole r t e = ap printed (ap (λ (a : Answer). refuse a.number a.first a.second a.third a.fourth) t ∙ sym e)
 
-pub refused_whole : (o : Outcome) {told : List ℕ} → told ≡ numbers_of o.verdict → (get_or told 0 0 ≡ 0 → ⊥)
-    → printed (refuse (get_or told 0 0) (get_or told 1 0) (get_or told 2 0) (get_or told 3 0) (get_or told 4 0)) ≡ printed o
-unfolding refuse
-refused_whole o {told} t z =
-    printed_refused (refuse (get_or told 0 0) (get_or told 1 0) (get_or told 2 0) (get_or told 3 0) (get_or told 4 0)) z
-    ∙ ap (λ (l : List ℕ). refused_text (answer (get_or l 0 0) (get_or l 1 0) (get_or l 2 0) (get_or l 3 0) (get_or l 4 0))) t
-    ∙ sym (printed_refused o (λ e. z (ap (λ (l : List ℕ). get_or l 0 0) t ∙ e)))
+pub refused_number : (told : Told) (r : Refusal) → answer_told told ≡ refusal_answer r → 0 < told.number
+refused_number told r t = omega (arith, ap (λ (a : Answer). a.number) t, refusal_number r)
 
-module _ {o : Outcome} {told bytes area forward reverse : List ℕ} (p : Parts o told bytes area forward reverse) where
+module _ {o : Outcome} {told : Accepted} {bytes area forward reverse : List ℕ} (p : Parts o told bytes area forward reverse) where
   pub parts_limits : (held : List ℕ) → 40000 ≤ length held
-      → Limits (take (get_or told 1 0) bytes) (take (2 * get_or told 2 0) area) (take (get_or bytes 0 0 / 2 + 1) forward)
+      → Limits (take (told.bytes) bytes) (take (2 * told.arcs) area) (take (get_or bytes 0 0 / 2 + 1) forward)
       (take (get_or bytes 0 0 / 2 + 1) reverse) held
   parts_limits held room = record {
     record_long = omega (arith, front_size p.bytes_are, p.few_bytes);
@@ -141,11 +144,11 @@ module _ {o : Outcome} {told bytes area forward reverse : List ℕ} (p : Parts o
     room = room;
   }
 
-  pub parts_whole : printed (accepted (get_or told 2 0) (get_or told 3 0) (take (get_or told 1 0) bytes) (take (2 * get_or told 2 0) area)
+  pub parts_whole : printed (accepted (told.arcs) (told.groups) (take (told.bytes) bytes) (take (2 * told.arcs) area)
       (take (get_or bytes 0 0 / 2 + 1) forward) (take (get_or bytes 0 0 / 2 + 1) reverse)) ≡ printed o
   unfolding accepted
   parts_whole =
-      let v : answer 0 (length (take (get_or told 1 0) bytes)) (get_or told 2 0) (get_or told 3 0) 0 ≡ o.verdict =
-      ap (λ (k : ℕ). answer 0 k (get_or told 2 0) (get_or told 3 0) 0) (sym (front_size p.bytes_are)) ∙ p.verdict_is in
-      let a : pairs (take (2 * get_or told 2 0) area) ≡ o.arcs = ap pairs p.arcs_are.these ∙ pairs_bytes o.arcs in
+      let v : answer 0 (length (take (told.bytes) bytes)) (told.arcs) (told.groups) 0 ≡ o.verdict =
+      ap (λ (k : ℕ). answer 0 k (told.arcs) (told.groups) 0) (sym (front_size p.bytes_are)) ∙ p.verdict_is in
+      let a : pairs (take (2 * told.arcs) area) ≡ o.arcs = ap pairs p.arcs_are.these ∙ pairs_bytes o.arcs in
       printed_same _ o v p.bytes_are.these a p.forward_are.these p.reverse_are.these

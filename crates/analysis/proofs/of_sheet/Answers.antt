@@ -1,58 +1,47 @@
--- `of_sheet` meets its contract: the read decides 2, and what was read all others.
-use mathlib.Core.Path.{◌≡◌, sym, ap, refl, ◌∙◌}
+-- `of_sheet` meets its contract: the read decides 2, the counts 3 and 4, and the hours and the arcs all others.
+use mathlib.Core.Path.{◌≡◌, sym, ap, ap₂, refl, ◌∙◌}
 use native.Mathlib.Omega.{arith}
 use lib.ListN.{length, take}
 use lib.Seq.{length-take-le}
 use Rattle.relation.specs.Arcs.{pairs}
-use Rattle.analysis.specs.Result.{rooms}
-use Rattle.analysis.proofs.Crossing.{gives_same, gives_refused}
-use Rattle.analysis.proofs.Steps.{sheet_broken, sheet_read, pairs_bytes}
-use Rattle.analysis.proofs.SheetArcs.{SheetLists, sheet_lists, broken_read, hours_long, looked_within}
+use Rattle.analysis.specs.Outcome.{timed}
+use Rattle.analysis.proofs.Crossing.{gives_same, gives_err}
+use Rattle.analysis.proofs.Steps.{sheet_broken, sheet_read, count_timed, pairs_bytes}
+use Rattle.analysis.proofs.SheetArcs.{SheetLists, sheet_lists, broken_read}
 use Rattle.analysis.proofs.of_sheet.Goals as goal
-use Rattle.analysis.proofs.of_sheet.Goals.{After-read_sheet, In-Ok}
-
--- the hours that the read leaves in their list
-times_length : (c : goal.After-read_sheet) → length c.read_sheet.new.hours ≡ 128
-times_length c =
-    let r = c.read_sheet in
-    hours_long c.args.sheet.now _ _ r.result r.new.hours r.new.list r.ensures
+use Rattle.analysis.proofs.of_sheet.Goals.{In_ok-read}
 
 -- what was read of a sheet in the line form
-lists : (c : goal.In-Ok) → SheetLists c.args.sheet.now c.in-Ok.read.jobs c.in-Ok.read.arcs c.read_sheet.new.hours c.read_sheet.new.list
+lists : (c : goal.In_ok-read) → SheetLists c.args.sheet.now c.in_ok-read.read.jobs c.in_ok-read.read.arcs c.read_sheet.new.hours c.read_sheet.new.list
 lists c =
     let r = c.read_sheet in
-    sheet_lists c.args.sheet.now _ _ r.result r.new.hours r.new.list r.ensures _ _ c.in-Ok.is refl c.requires.fact
+    sheet_lists c.args.sheet.now _ _ r.result r.new.hours r.new.list r.ensures _ _ c.in_ok-read.was refl c.requires.fact
 
-pub slice_bounds-of_count-end : goal.slice_bounds-of_count-end
-slice_bounds-of_count-end c =
-    sym (length-take-le c.hours_looked_at.result c.read_sheet.new.hours
-    (omega (arith, times_length (goal.at.slice_bounds-of_count-end c).After-read_sheet, c.hours_looked_at.ensures.0)))
-
-pub slice_bounds-of_count-end-in-Ok : goal.slice_bounds-of_count-end-in-Ok
-slice_bounds-of_count-end-in-Ok c =
-    let l = c.looked_at.ensures in
-    looked_within _ c.looked_at.result (length c.read_sheet.new.list) l.1 l.2 (lists (goal.at.slice_bounds-of_count-end-in-Ok c).In-Ok).few
-
-pub slice_bounds-of_count-end-in-Ok-2 : goal.slice_bounds-of_count-end-in-Ok-2
-slice_bounds-of_count-end-in-Ok-2 c =
-    let l = c.looked_at.ensures in
-    let list = c.read_sheet.new.list in
-    sym (length-take-le c.looked_at.result list
-    (looked_within _ c.looked_at.result (length list) l.1 l.2 (lists (goal.at.slice_bounds-of_count-end-in-Ok-2 c).In-Ok).few))
-
-pub returns-in-Ok : goal.returns-in-Ok
-returns-in-Ok c =
-    let a = c.args in
+pub returns-in_err-read : goal.returns-in_err-read
+returns-in_err-read c =
     let r = c.read_sheet in
-    let x = lists (goal.at.returns-in-Ok c).In-Ok in
-    gives_same (sym (sheet_read (rooms a.bytes.now a.area.now) a.sheet.now _ x.hours x.arcs c.requires.sheet_len_bound x.read_is))
-    (c.of_count.ensures x.hours x.arcs
-    (λ few. ap (λ k. take k r.new.hours) (c.hours_looked_at.ensures.1 few) ∙ x.hours_front few)
-    x.size
-    (λ few. ap (λ k. pairs (take k r.new.list)) (c.looked_at.ensures.1 few) ∙ ap pairs (x.front few) ∙ pairs_bytes x.arcs))
+    gives_err _ c.from_residual.ensures.1 (sheet_broken _ c.args.sheet.now _ c.requires.sheet_len_bound
+    (broken_read c.args.sheet.now _ _ r.result r.new.hours r.new.list r.ensures _ c.in_err-read.was))
 
-pub returns-in-Err : goal.returns-in-Err
-returns-in-Err c =
-    let r = c.read_sheet in
-    let e = broken_read c.args.sheet.now _ _ r.result r.new.hours r.new.list r.ensures _ c.in-Err.is in
-    gives_refused c.refused.ensures (sheet_broken _ c.args.sheet.now _ c.requires.sheet_len_bound e) refl
+pub returns-in_err-counts : goal.returns-in_err-counts
+returns-in_err-counts c =
+    let x = lists (goal.at.returns-in_err-counts c).In_ok-read in
+    gives_err _ c.from_residual-in_err-counts.ensures.1
+    (sheet_read _ c.args.sheet.now _ x.hours x.arcs c.requires.sheet_len_bound x.read_is ∙ c.in_err-counts.ensures _ x.hours x.arcs x.size)
+
+pub slice_bounds-of_lists-end : goal.slice_bounds-of_lists-end
+slice_bounds-of_lists-end c = (lists (goal.at.slice_bounds-of_lists-end c).In_ok-read).few c.in_ok-counts.ensures.2
+
+pub slice_bounds-of_lists-end-2 : goal.slice_bounds-of_lists-end-2
+slice_bounds-of_lists-end-2 c =
+    sym (length-take-le _ c.read_sheet.new.list ((lists (goal.at.slice_bounds-of_lists-end-2 c).In_ok-read).few c.in_ok-counts.ensures.2))
+
+pub returns : goal.returns
+returns c =
+    let h = c.in_ok-counts.ensures in
+    let x = lists (goal.at.returns c).In_ok-read in
+    gives_same
+    (ap₂ (timed _ _) (ap (λ k. take k c.read_sheet.new.hours) c.from.ensures ∙ x.hours_front h.1) (ap pairs (x.front h.2) ∙ pairs_bytes x.arcs)
+    ∙ sym (sheet_read _ c.args.sheet.now _ x.hours x.arcs c.requires.sheet_len_bound x.read_is
+    ∙ count_timed _ _ x.hours x.arcs h.0 h.1 (omega (arith, h.2, x.size))))
+    c.of_lists.ensures

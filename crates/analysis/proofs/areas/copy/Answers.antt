@@ -1,20 +1,14 @@
--- `areas::copy` meets its contract. The loop's invariant: the first i bytes are copied.
+-- `areas::copy` meets its contract.
+use mathlib.Core.Path.{sym, ap₂, ap, ◌∙◌}
+use mathlib.Core.List.{◌++◌}
 use native.Mathlib.Omega.{arith}
-use Rattle.analysis.proofs.Copying.{copy_start, copy_next, copy_end}
+use lib.ListN.{drop}
+use lib.Seq.{length-take-le}
+use Rattle.poset.specs.Areas.{overlay}
 use Rattle.analysis.proofs.areas.copy.Goals as goal
 
-pub loop-i-init : goal.loop-i-init
-loop-i-init c = copy_start _ _ _
-
-pub loop-i-preserved : goal.loop-i-preserved
-loop-i-preserved c =
-    let l = c.loop-i in
-    copy_next _ _ _ _ _ l.invariant c.loop-i-test.true (omega (arith, c.requires)) c.requires.2
-
-pub shape_of-area : goal.shape_of-area
-shape_of-area c = c.loop-i.invariant.size
-
 pub returns : goal.returns
+unfolding overlay
 returns c =
-    let l = c.loop-i in
-    copy_end _ _ _ _ _ l.invariant c.loop-i-test.false (omega (arith, c.requires))
+    let a = c.args in
+    ap₂ ◌++◌ c.copy_from_slice.ensures.after (ap (λ k. drop k a.area.now) (sym (length-take-le a.count a.bytes.now (omega (arith, c.requires)))))

@@ -4,7 +4,6 @@ use Rattle.poset.specs.Order.{Strict}
 use Rattle.relation.specs.Table.{holds, Inside}
 use Rattle.relation.proofs.Chain.{reduced_inside}
 use Rattle.reader.proofs.Whole.{slice_below}
-use Rattle.analysis.proofs.Crossing.{gives_told}
 use Rattle.analysis.proofs.Taking.{count_few}
 use Rattle.analysis.proofs.Decoded.{Decoded, decoded, gives_11, ready, after_inside, after_strict, back_10, back_0}
 use Rattle.analysis.proofs.reading.of_bytes.Goals.{In-Some, After-order_of-after}
@@ -24,8 +23,7 @@ module _ (c : goal.After-order_of-after) (d : Decoded c.args.bytes.now c.in-Some
   order_strict = after_strict _ _ d c.order_of-after.result c.order_of-after.ensures
 
 pub returns-in_default : goal.returns-in_default
-returns-in_default c =
-    gives_told c.refused.ensures (gives_11 c.args.bytes.now c.args.area.now c.in_default.ensures)
+returns-in_default c = gives_11 c.args.bytes.now c.args.area.now c.in_default.ensures
 
 pub order_of-after-requires : goal.order_of-after-requires
 order_of-after-requires c =
@@ -68,9 +66,8 @@ pub returns-then-area-count : goal.returns-then-area-count
 returns-then-area-count c =
     let a = c.args in
     let red = c.reduced-reduced in
-    gives_told c.refused-then-area-count.ensures
-    (back_10 a.bytes.now _ (read_tree_lem (goal.at.returns-then-area-count c).In-Some) c.order_of-after.result c.order_of-after.ensures
-    red.result red.ensures c.pair_count-count.result c.pair_count-count.ensures a.area.now c.if-area-count.true)
+    back_10 a.bytes.now _ (read_tree_lem (goal.at.returns-then-area-count c).In-Some) c.order_of-after.result c.order_of-after.ensures
+    red.result red.ensures c.pair_count-count.result c.pair_count-count.ensures a.area.now c.if-area-count.true
 
 pub write_pairs-requires : goal.write_pairs-requires
 write_pairs-requires c =

@@ -1,52 +1,55 @@
--- `order::of_arcs` meets its contract: the closure's first job before itself decides between 7 and the rest.
-use mathlib.Core.Path.{◌≡◌, sym, ◌∙◌}
+-- `order::of_arcs` meets its contract: the closure decides 7, and what is written 8 or acceptance.
+use mathlib.Core.Path.{◌≡◌, sym, ap, ◌∙◌}
 use mathlib.Core.List.{◌++◌}
-use Rattle.std.specs.Prelude.{None}
 use native.Mathlib.Omega.{arith}
-use Rattle.poset.specs.Order.{first_on_cycle_of}
-use Rattle.relation.specs.Table.{holds}
+use Rattle.poset.specs.Order.{before}
 use Rattle.relation.specs.Arcs.{pairs}
-use Rattle.relation.proofs.Chain.{table_inside}
-use Rattle.analysis.proofs.Circles.{circle_outcome, order_outcome, order_asks}
-use Rattle.preview.proofs.Answering.{same_answer, told_refused}
+use Rattle.relation.specs.Table.{holds}
+use Rattle.relation.proofs.Chain.{table_inside, reduced_inside}
+use Rattle.analysis.specs.Outcome.{roomy, ordered, decomposed}
+use Rattle.analysis.proofs.Circles.{order_outcome}
+use Rattle.analysis.proofs.Crossing.{crossed_outcome}
+use Rattle.analysis.proofs.Times.{all_below_lem, written_all}
+use Rattle.preview.proofs.Answering.{same_answer, told_err, told_accepted}
 use Rattle.preview.proofs.order.of_arcs.Goals as goal
-use Rattle.preview.proofs.order.of_arcs.Goals.{In-None}
+use Rattle.preview.proofs.order.of_arcs.Goals.{In_ok-after}
 
--- no job is before itself in the closure
-none_here : (c : goal.In-None) → first_on_cycle_of c.args.n (holds c.transitive_closure-after.result) ≡ None
-none_here c = sym c.first_on_cycle-circle.ensures ∙ c.in-None.is
+-- the order of the arcs is that of the closure
+taken_apart : (c : goal.In_ok-after) → ordered roomy c.args.n c.args.hours.now (before c.args.n (pairs c.args.list.now ++ pairs c.args.last.now))
+    ≡ decomposed roomy c.args.n c.args.hours.now (holds c.in_ok-after.after)
+taken_apart c =
+    let h = c.in_ok-after.ensures (pairs c.args.list.now ++ pairs c.args.last.now) c.table_of.ensures in
+    order_outcome _ _ _ _ h.3 ∙ ap (decomposed _ _ _) (sym h.0)
 
-pub table_of-requires : goal.table_of-requires
-table_of-requires c =
-    let s = c.requires in
-    λ a m. (omega (arith, (s.within a m).0, s.n_nonzero.1), omega (arith, (s.within a m).1, s.n_nonzero.1))
+pub closed-requires-clause-inside : goal.closed-requires-clause-inside
+closed-requires-clause-inside c =
+    table_inside c.args.n (pairs c.args.list.now ++ pairs c.args.last.now) c.table_of.result c.table_of.ensures c.requires.within
 
-pub transitive_closure-after-requires : goal.transitive_closure-after-requires
-transitive_closure-after-requires c =
+pub returns-in_err-after : goal.returns-in_err-after
+returns-in_err-after c =
+    told_err _ _ c.from_residual.ensures.1 (c.in_err-after.ensures (pairs c.args.list.now ++ pairs c.args.last.now) c.table_of.ensures _ _)
+
+pub written-requires-clause-hours_value : goal.written-requires-clause-hours_value
+written-requires-clause-hours_value c = all_below_lem _ c.padded-all.ensures c.requires.hours_len.1
+
+pub returns-in_err-written : goal.returns-in_err-written
+returns-in_err-written c =
+    let e = c.in_err-written.ensures in
+    told_err _ _ c.from_residual-in_err-written.ensures.1
+    (taken_apart (goal.at.returns-in_err-written c).In_ok-after
+    ∙ (rw e.1 (crossed_outcome _ c.args.n c.args.hours.now (holds c.in_ok-after.after) e.0)))
+
+pub pair_count-count-requires-clause-inside : goal.pair_count-count-requires-clause-inside
+pair_count-count-requires-clause-inside c =
+    let h = c.in_ok-after.ensures (pairs c.args.list.now ++ pairs c.args.last.now) c.table_of.ensures in
+    reduced_inside c.args.n c.in_ok-after.after c.reduced-reduced.result h.2 c.reduced-reduced.ensures
+
+pub returns : goal.returns
+returns c =
     let a = c.args in
-    record {
-      n_bound = c.requires.n_nonzero.1;
-      inside = table_inside a.n (pairs a.list.now ++ pairs a.last.now) c.table_of.result c.table_of.ensures c.requires.within;
-    }
-
-pub of_order-requires : goal.of_order-requires
-of_order-requires c =
-    let a = c.args in
-    let s = c.requires in
-    let asked = order_asks a.n (pairs a.list.now ++ pairs a.last.now) _ _ c.table_of.ensures c.transitive_closure-after.ensures.by_index s.within
-    (none_here (goal.at.of_order-requires c).In-None) in
-    record { n_nonzero = s.n_nonzero; strict = asked.0; inside = asked.1; hours_len = s.hours_len }
-
-pub returns-in-Some : goal.returns-in-Some
-returns-in-Some c =
-    let a = c.args in
-    told_refused
-    (circle_outcome a.n (pairs a.list.now ++ pairs a.last.now) _ _ c.table_of.ensures c.transitive_closure-after.ensures.by_index _ _
-    (sym c.first_on_cycle-circle.ensures ∙ c.in-Some.is))
-
-pub returns-in-None : goal.returns-in-None
-returns-in-None c =
-    let a = c.args in
-    c.of_order.ensures
-    ∙ same_answer (order_outcome a.n (pairs a.list.now ++ pairs a.last.now) _ _ c.table_of.ensures
-    c.transitive_closure-after.ensures.by_index _ _ (none_here (goal.at.returns-in-None c).In-None))
+    let h = c.in_ok-after.ensures (pairs a.list.now ++ pairs a.last.now) c.table_of.ensures in
+    let w = c.in_ok-written.ensures in
+    told_accepted a.n c.requires.n_nonzero.1 a.hours.now (holds c.in_ok-after.after) h.1 w.0 w.1 c.in_ok-written.written
+    (written_all a.hours.now c.padded-all.ensures a.n w.0 w.2) c.reduced-reduced.result c.reduced-reduced.ensures c.pair_count-count.result
+    c.pair_count-count.ensures
+    ∙ same_answer (sym (taken_apart (goal.at.returns c).In_ok-after))
