@@ -1,5 +1,5 @@
 -- The entries of the stack: what is known of each, and how a group's parts become entries.
-use Prim.Native.Nat.{ℕ, zero, suc, ◌+◌, ◌-◌, ◌≤◌, ◌<◌}
+use Prim.Native.Nat.{ℕ, ◌+◌, ◌-◌, ◌≤◌, ◌<◌}
 use mathlib.Core.Path.{◌≡◌, refl, sym, ap, ap₂, subst, ◌∙◌}
 use mathlib.Core.List.{List, [], ◌∷◌, ◌++◌, map, Memᴰ}
 use mathlib.Core.Bool.{Bool, true, false, not, not-not}
@@ -18,7 +18,8 @@ use Rattle.relation.specs.Table.{has, members}
 use Rattle.record.specs.Layout.{kind_bit}
 use Rattle.record.specs.Tokens.{group_token}
 use Rattle.writer.specs.Parts.{Walk, Splits, bigger, laid_out, close_of}
-use Rattle.writer.specs.Stack.{Entry, entries, jobs_of, start_at, spread_out, group_field_of}
+use Rattle.writer.specs.Stack.{jobs_of, start_at, spread_out, group_field_of}
+use Rattle.writer.specs.declared.stack.Entry.{Entry}
 use Rattle.writer.proofs.Worklist.{Pending, spread, total}
 use Rattle.writer.proofs.Counting.{none_jobs, cut_size}
 use Rattle.writer.proofs.Groups.{kind_of, members_of}
@@ -53,12 +54,15 @@ pub jobs_spread : (flag : Bool) (start whole : ℕ) (ps : List (List ℕ)) → j
 jobs_spread flag start whole [] = refl
 jobs_spread flag start whole (p ∷ ps) = ap (λ k. length (members p) + k) (jobs_spread flag start whole ps)
 
+-- as many as the parts
+pub length_spread : (flag : Bool) (start whole : ℕ) (ps : List (List ℕ)) → length (spread_out flag start whole ps) ≡ length ps
+length_spread flag start whole [] = refl
+length_spread flag start whole (p ∷ ps) = omega (arith, length_spread flag start whole ps)
+
 -- at least one job each
-pub entries_few : (n : ℕ) (tied free : Rel) (stack : List (List ℕ)) (starts : List ℕ) (kinds : List Bool) (h : ℕ)
-    → Every n tied free (entries stack starts kinds h) → h ≤ jobs_of (sets_of (entries stack starts kinds h))
-unfolding entries
-entries_few n tied free stack starts kinds zero x = omega arith
-entries_few n tied free stack starts kinds (suc h) x = omega (arith, x.0.some, entries_few n tied free stack starts kinds h x.1)
+pub entries_few : (n : ℕ) (tied free : Rel) (es : List Entry) → Every n tied free es → length es ≤ jobs_of (sets_of es)
+entries_few n tied free [] x = omega arith
+entries_few n tied free (e ∷ es) x = omega (arith, x.0.some, entries_few n tied free es x.1)
 
 -- entries as pending blocks
 abbrev pub to_pending : Entry → Pending

@@ -11,7 +11,6 @@ pub mod Splitting
 pub mod Numbering
 pub mod Groups
 pub mod Leads
-pub mod Sizes
 pub mod Arranging
 pub mod Stacking
 pub mod Rows

@@ -23,9 +23,10 @@ use Rattle.poset.proofs.Linked.{Linked}
 use Rattle.poset.proofs.Components.{Of, Sorted}
 use Rattle.poset.proofs.Connected.{connected_n}
 use Rattle.relation.specs.Table.{has, members, Least}
-use Rattle.writer.specs.Parts.{size_of, lead, Walk, start, next, Partial, PartOf, Splits, Cut, Sized, Leading, Numbered, Taken, bigger, close_of}
-use Rattle.writer.specs.Stack.{Entry, jobs_of}
-use Rattle.writer.specs.Turns.{transpose, Tables}
+use Rattle.writer.specs.Parts.{size_of, lead, Walk, start, next, Partial, PartOf, Splits, Cut, Leading, Numbered, Taken, bigger, close_of}
+use Rattle.writer.specs.Stack.{jobs_of}
+use Rattle.writer.specs.declared.stack.Entry.{Entry}
+use Rattle.writer.specs.Compared.{transpose, Tables}
 use Rattle.writer.proofs.Searching.{path_within}
 use Rattle.writer.proofs.Groups.{kind_of, Alike, joined_linked, members_sorted, of_members}
 use Rattle.writer.proofs.Leads.{lead_least}
@@ -109,11 +110,10 @@ as_found count parts n = record {
 }
 
 -- a series is laid out as it is taken apart
-pub cut_taken : {close under : Rel} {s : List ℕ} {parts : List (List ℕ)} {jobs : List ℕ} {count : ℕ} {numbers numbers' : List ℕ}
-    → Cut close under true s parts count → Sized count parts jobs → Numbered s parts count numbers numbers'
-    → Taken close under true s parts jobs count numbers numbers'
-cut_taken {parts = parts} {count = count} cut sized numbered =
-    record { sized = sized; few = cut.few; found = take count parts; splits = cut.these; numbered = as_found count parts numbered; these = refl }
+pub cut_taken : {close under : Rel} {s : List ℕ} {parts : List (List ℕ)} {count : ℕ} {numbers numbers' : List ℕ}
+    → Cut close under true s parts count → Numbered s parts count numbers numbers' → Taken close under true s parts count numbers numbers'
+cut_taken {parts = parts} {count = count} cut numbered =
+    record { size = cut.size; few = cut.few; found = take count parts; splits = cut.these; numbered = as_found count parts numbered; these = refl }
 
 -- side by side the parts are found by their smallest jobs
 
@@ -160,10 +160,10 @@ module _ {close under : Rel} {s : List ℕ} {parts : List (List ℕ)} {count : �
   pub cut_leading : Leading (take count parts)
   cut_leading = splits_leading close under (take count parts) s cut.these
 
-  pub cut_arranged : {numbers numbers' : List ℕ} → Numbered s parts count numbers numbers' → (parts' : List (List ℕ)) (jobs' : List ℕ)
-      → Sized count parts' jobs' → take count parts' ≡ arranged bigger (take count parts) → Taken close under false s parts' jobs' count numbers numbers'
-  cut_arranged numbered parts' jobs' sized e = record {
-    sized = sized;
+  pub cut_arranged : {numbers numbers' : List ℕ} → Numbered s parts count numbers numbers' → (parts' : List (List ℕ))
+      → length parts' ≡ 128 → take count parts' ≡ arranged bigger (take count parts) → Taken close under false s parts' count numbers numbers'
+  cut_arranged numbered parts' size e = record {
+    size = size;
     few = cut.few;
     found = take count parts;
     splits = cut.these;
@@ -172,10 +172,10 @@ module _ {close under : Rel} {s : List ℕ} {parts : List (List ℕ)} {count : �
   }
 
 -- a set taken apart
-module _ {close under : Rel} {flag : Bool} {s : List ℕ} {parts : List (List ℕ)} {jobs : List ℕ} {count : ℕ} {numbers numbers' : List ℕ}
-    (cut : Taken close under flag s parts jobs count numbers numbers') where
+module _ {close under : Rel} {flag : Bool} {s : List ℕ} {parts : List (List ℕ)} {count : ℕ} {numbers numbers' : List ℕ}
+    (cut : Taken close under flag s parts count numbers numbers') where
   pub cut_count : length (members s) ≤ 128 → length (take count parts) ≡ count
-  cut_count few = length-take-le count parts (omega (arith, cut.few, cut.sized.parts_length))
+  cut_count few = length-take-le count parts (omega (arith, cut.few, cut.size))
 
   pub cut_jobs : jobs_of (take count parts) ≡ length (members s)
   cut_jobs = ap jobs_of cut.these ∙ laid_sum flag size_of cut.found ∙ splits_jobs close under flag cut.found s cut.splits
@@ -244,8 +244,8 @@ module _ {n : ℕ} {under tied free : Rel} (t : Tables n under tied free) (pos :
       go (p ∷ q ∷ ps) h =
           subst (λ b. JoinedBy (close_of (not b) tied free) all) (sym (lt_true 1 (length (p ∷ q ∷ ps)) (omega arith))) (series_joined p q ps h)
 
-  pub root_cut : {parts : List (List ℕ)} {jobs : List ℕ} {count : ℕ} {numbers numbers' : List ℕ}
-      → Taken free under true all parts jobs count numbers numbers' → EntryOk n tied free (record { set = all; start = 0; series = ltb 1 count })
+  pub root_cut : {parts : List (List ℕ)} {count : ℕ} {numbers numbers' : List ℕ}
+      → Taken free under true all parts count numbers numbers' → EntryOk n tied free (record { set = all; start = 0; series = ltb 1 count })
   root_cut {count = count} cut =
       root_ok cut.found (ltb 1 count) (ap (ltb 1) (sym (cut_count cut (omega (arith, all_size))) ∙ ap length cut.these)) cut.splits
 
@@ -283,12 +283,13 @@ under_partial n r under strict inside turned =
 pub transpose_is : (r under : Rel) → ((u v : ℕ) → under u v ≡ r v u) → transpose under ≡ r
 transpose_is r under turned = fun_ext λ u. fun_ext λ v. turned v u
 
-pub tables : (n : ℕ) (r under tied free : Rel) → n ≤ 128 → Strict n r → ((u v : ℕ) → r u v ≡ true → (u < n) × (v < n))
+pub tables : (n : ℕ) (r under tied free : Rel) → 0 < n → n ≤ 128 → Strict n r → ((u v : ℕ) → r u v ≡ true → (u < n) × (v < n))
     → ((u v : ℕ) → under u v ≡ r v u) → ((u v : ℕ) → u < n → tied u v ≡ (r u v || under u v))
     → ((u v : ℕ) → u < n → free u v ≡ (ltb v n && (not (eqb u v) && not (r u v || under u v)))) → Tables n under tied free
-tables n r under tied free few strict inside turned t f =
+tables n r under tied free some few strict inside turned t f =
     let same = sym (transpose_is r under turned) in
     record {
+      some = some;
       few = few;
       strict = subst (Strict n) same strict;
       partial = under_partial n r under strict inside turned;

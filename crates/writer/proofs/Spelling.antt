@@ -2,15 +2,13 @@
 use Prim.Native.Nat.{ℕ, ◌+◌, ◌*◌, ◌-◌, ◌≤◌}
 use mathlib.Core.Path.{◌≡◌, refl, sym, ap, ◌∙◌}
 use mathlib.Core.List.{List, ◌++◌, flat_map}
-use mathlib.Core.Bool.{Bool, true, false}
-use Rattle.std.specs.Prelude.{Option, None, Some}
+use Rattle.std.specs.Prelude.{Option, None, Some, option_map}
 use native.Mathlib.Omega.{arith}
 use lib.ListN.{length, take, replicate, length-append, length-replicate}
 use lib.Seq.{take_at}
 use Rattle.poset.specs.Order.{Rel, Strict}
 use Rattle.poset.specs.Tree.{Tree, Spans}
 use Rattle.poset.specs.Decompose.{tree_of}
-use Rattle.poset.proofs.Laws.{clash}
 use Rattle.poset.proofs.Theorems.{tree_of_sound}
 use Rattle.record.specs.Bits.{bits, bytes_of}
 use Rattle.record.specs.Layout.{tree_bits, layout, most_record_bytes}
@@ -19,7 +17,7 @@ use Rattle.record.proofs.Records.{layout_length}
 use Rattle.record.proofs.Sizes.{groups_lt, length_tree_bits, length_leaves, spans_small}
 use Rattle.record.proofs.Tokens.{token_bits, tokens_few}
 use Rattle.writer.specs.Packing.{Ends}
-use Rattle.writer.specs.Shapes.{shape}
+use Rattle.writer.specs.Shapes.{shape_of}
 use Rattle.writer.specs.Written.{filled, record_of, written}
 use Rattle.writer.specs.declared.tree.Shape.{Shape}
 use Rattle.writer.specs.declared.writing.Written.{Written}
@@ -29,33 +27,29 @@ pub record Spells (hours : List ℕ) (t : Tree) (fields : List ℕ) : Type 0 whe
   pub room : 7 + length (flat_map (field_bits hours) fields) ≤ 8 * most_record_bytes
   pub these : flat_map (field_bits hours) fields ≡ tree_bits hours t
 
--- a tree or none, as a flag tells
-told : (P : Option Tree → Type 0) (ok : Bool) → (P None → ok ≡ false) → ((t : Tree) → P (Some t) → ok ≡ true) → (o : Option Tree) → P o
-    → (ok ≡ true → (t : Tree) × (o ≡ Some t) × P (Some t)) × (ok ≡ false → o ≡ None)
-told P ok low high None h = ((λ e. absurd (clash e (low h))), λ e. refl)
-told P ok low high (Some t) h = ((λ e. (t, refl, h)), λ e. absurd (clash (high t h) e))
+-- what is made of a tree or none is there where the tree is
+module _ {A : Type 0} (f : Tree → A) where
+  pub mapped_some : (o : Option Tree) (a : A) → Some a ≡ option_map f o → (t : Tree) × (o ≡ Some t) × (a ≡ f t)
+  mapped_some None a e = absurd (cc)
+  mapped_some (Some t) a e = (t, refl, cc)
 
-pub shape_told : (o : Option Tree) (r : Shape) → r ≡ shape o
-    → (r.ok ≡ true → (t : Tree) × (o ≡ Some t) × (r ≡ shape (Some t))) × (r.ok ≡ false → o ≡ None)
-shape_told o r = told (λ o. r ≡ shape o) r.ok (ap (λ (r : Shape). r.ok)) (λ t. ap (λ (r : Shape). r.ok)) o
+  pub mapped_none : (o : Option Tree) → None ≡ option_map f o → o ≡ None
+  mapped_none None e = refl
+  mapped_none (Some t) e = absurd (cc)
 
--- a record is that of a tree
 pub written_some : (n : ℕ) (hours : List ℕ) (o : Option Tree) (w : Written) → Some w ≡ written n hours o
     → (t : Tree) × (o ≡ Some t) × (w ≡ record_of n hours t)
-written_some n hours None w e = absurd (cc)
-written_some n hours (Some t) w e = (t, refl, cc)
+written_some n hours = mapped_some (record_of n hours)
 
--- and where there is none, there is no tree
 pub written_none : (n : ℕ) (hours : List ℕ) (o : Option Tree) → None ≡ written n hours o → o ≡ None
-written_none n hours None e = refl
-written_none n hours (Some t) e = absurd (cc)
+written_none n hours = mapped_none (record_of n hours)
 
 module _ (n : ℕ) (few : n ≤ 128) (r : Rel) (strict : Strict n r) (t : Tree) (e : tree_of n r ≡ Some t) where
   spans : Spans n t
   spans = (tree_of_sound n r t strict e).0.spans
 
   -- the fields of a shape
-  module _ (s : Shape) (is : s ≡ shape (Some t)) where
+  module _ (s : Shape) (is : s ≡ shape_of t) where
     count_is : s.count ≡ length (tokens t)
     count_is = ap (λ (s : Shape). s.count) is
 

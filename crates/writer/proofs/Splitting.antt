@@ -60,11 +60,11 @@ module _ (near under : Rel) (series : Bool) (s : List ℕ) where
             ap (λ k. take k (set parts count part)) (add-one count)
             ∙ take-suc-set parts count part (omega (arith, i.size, i.room, few_members s, left_falls))
 
-  pub split_end : (left : List ℕ) (parts : List (List ℕ)) (count : ℕ) → Splitting near under series s left parts count → Jobs s
+  pub split_end : (left : List ℕ) (parts : List (List ℕ)) (count : ℕ) → Splitting near under series s left parts count → Jobs left
       → exists (has left) (below 128) ≡ false → Splits near under series s (take count parts)
   split_end left parts count i jobs e =
       subst (Splits near under series s) (append-nil (take count parts))
-      (i.so_far [] (empty left (λ v p. jobs v (i.within v p)) e))
+      (i.so_far [] (empty left jobs e))
 
 -- a set that is not empty
 room_left : (left : List ℕ) → exists (has left) (below 128) ≡ true → 0 < length (members left)

@@ -1,3 +1,4 @@
+pub mod Compared
 pub mod Packing
 pub mod Parts
 pub mod Shapes

@@ -31,6 +31,11 @@ pub record PartOf (near : Rel) (s : List ℕ) (x : ℕ) (part : List ℕ) : Type
 abbrev pub Jobs : List ℕ → Type 0
 Jobs s = (v : ℕ) → has s v ≡ true → v < 128
 
+-- a set of jobs below 128, and how many it has
+pub record Counted (s : List ℕ) (size : ℕ) : Type 0 where
+  pub small : Jobs s
+  pub counted : size ≡ size_of s
+
 -- irreflexive and transitive
 pub record Partial (r : Rel) : Type 0 where
   pub irreflexive : (u : ℕ) → r u u ≡ false
@@ -76,12 +81,6 @@ pub record Numbered (s : List ℕ) (parts : List (List ℕ)) (count : ℕ) (numb
   pub here : (i v : ℕ) → i < count → has (get_or parts i []) v ≡ true → get_or numbers' v 0 ≡ i
   pub others : (v : ℕ) → has s v ≡ false → get_or numbers' v 0 ≡ get_or numbers v 0
 
--- the sizes of the first count parts
-pub record Sized (count : ℕ) (parts : List (List ℕ)) (jobs : List ℕ) : Type 0 where
-  pub parts_length : length parts ≡ 128
-  pub jobs_length : length jobs ≡ 128
-  pub each : (i : ℕ) → i < count → get_or jobs i 0 ≡ size_of (get_or parts i [])
-
 -- each has a larger smallest job than p; and so has each than those ahead of it
 
 abbrev pub Behind : List ℕ → List (List ℕ) → Type 0
@@ -99,10 +98,9 @@ abbrev pub laid_out : Bool → List (List ℕ) → List (List ℕ)
 laid_out true ps = ps
 laid_out false ps = arranged bigger ps
 
--- the first count parts are s taken apart, in the order of the group, and their sizes; the jobs are numbered by the parts as they were found
-pub record Taken (near under : Rel) (series : Bool) (s : List ℕ) (parts : List (List ℕ)) (jobs : List ℕ) (count : ℕ) (numbers numbers' : List ℕ)
-    : Type 0 where
-  pub sized : Sized count parts jobs
+-- the first count parts are s taken apart, in the order of the group; the jobs are numbered by the parts as they were found
+pub record Taken (near under : Rel) (series : Bool) (s : List ℕ) (parts : List (List ℕ)) (count : ℕ) (numbers numbers' : List ℕ) : Type 0 where
+  pub size : length parts ≡ 128
   pub few : count ≤ size_of s
   pub found : List (List ℕ)
   pub splits : Splits near under series s found

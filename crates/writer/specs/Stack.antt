@@ -1,31 +1,15 @@
--- The stack of sets still to be taken apart.
+-- The sets still to be taken apart, the next one first.
 -- An inner contract: who reads the promise of write_record need not believe it, but specs/Written.antt alone.
-use Rattle.std.specs.Prelude.{ℕ, zero, suc, ◌+◌, ◌-◌, ◌<◌, ◌≡◌, List, [], ◌∷◌, Bool, true, false, not, length, get_or}
+use Rattle.std.specs.Prelude.{ℕ, ◌+◌, ◌-◌, List, [], ◌∷◌, Bool, true, false, Option, None, Some, not, length}
 use Rattle.poset.specs.Lists.{sum}
 use Rattle.relation.specs.Table.{members}
 use Rattle.writer.specs.Parts.{size_of}
+use Rattle.writer.specs.declared.stack.Entry.{Entry}
 
--- a set, where its jobs begin in the reverse sequence, and whether it is to become a series group
-pub record Entry : Type 0 where
-  pub set : List ℕ
-  pub start : ℕ
-  pub series : Bool
-
--- the sets of a stack of this height, their starts, kinds and sizes
-pub record Stacks (sets : List (List ℕ)) (starts : List ℕ) (kinds : List Bool) (sizes : List ℕ) (height : ℕ) : Type 0 where
-  pub sets_length : length sets ≡ 128
-  pub starts_length : length starts ≡ 128
-  pub kinds_length : length kinds ≡ 128
-  pub sizes_length : length sizes ≡ 128
-  pub sized : (h : ℕ) → h < height → get_or sizes h 0 ≡ length (members (get_or sets h []))
-
-abbrev pub entry_at : List (List ℕ) → List ℕ → List Bool → ℕ → Entry
-entry_at sets starts kinds h = record { set = get_or sets h []; start = get_or starts h 0; series = get_or kinds h false }
-
--- the entries of a stack of this height, the top first
-unfoldable pub entries : List (List ℕ) → List ℕ → List Bool → ℕ → List Entry
-entries sets starts kinds zero = []
-entries sets starts kinds (suc h) = entry_at sets starts kinds h ∷ entries sets starts kinds h
+-- the first of a list
+abbrev pub top : List Entry → Option Entry
+top [] = None
+top (e ∷ es) = Some e
 
 -- how many jobs some sets have together
 abbrev pub jobs_of : List (List ℕ) → ℕ

@@ -3,7 +3,10 @@
 #![tactic(auto)]
 
 mod arrange;
+mod block;
+mod compared;
 mod pack;
 mod parts;
+mod stack;
 mod tree;
 pub mod writing;

@@ -2,14 +2,16 @@
 ghost use Rattle.std.specs.Prelude.{◌≡◌, true, length};
 ghost use Rattle.relation.specs.Table.{has, holds};
 ghost use Rattle.poset.specs.Lists.{exists, below};
-ghost use Rattle.writer.specs.Parts.{size_of, Jobs, PartOf, Partial, First, StartsAt, Cut, Sized, Marked, Numbered};
+ghost use Rattle.writer.specs.Parts.{Jobs, PartOf, First, StartsAt, Cut, Taken, Marked, Numbered, close_of};
 
+use crate::arrange;
+use crate::block::Block;
+use crate::compared::Compared;
 use relation::set::JobSet;
 
 // The number at each job of a set.
 fn mark_each(jobs: JobSet, number: u8, numbers: &mut [u8; 128])
-    requires jobs { Jobs jobs }
-    requires numbers_len { length numbers.old ≡ 128 }
+    requires { Jobs jobs }
     ensures { Marked (has jobs) number numbers.old numbers.new }
 {
     let mut rest = jobs;
@@ -23,45 +25,27 @@ fn mark_each(jobs: JobSet, number: u8, numbers: &mut [u8; 128])
 
 // As mark_each, one word of the set after the other: in each run the other word is known to be 0.
 fn mark(part: JobSet, number: u8, numbers: &mut [u8; 128])
-    requires jobs { Jobs part }
-    requires numbers_len { length numbers.old ≡ 128 }
+    requires { Jobs part }
     ensures { Marked (has part) number numbers.old numbers.new }
 {
     mark_each(part.low(), number, numbers);
     mark_each(part.high(), number, numbers);
 }
 
-// A part of a set, and how many jobs it has.
-#[derive(Clone, Copy)]
-pub struct Found {
-    pub part: JobSet,
-    pub size: usize,
-}
-
-// The part of a set of `whole` jobs that x falls to: jobs that near joins stay together. Its jobs get the number, and are counted as they are gone through.
-fn part_of(
-    near: &[JobSet; 128],
-    s: JobSet,
-    whole: usize,
-    x: usize,
-    number: u8,
-    numbers: &mut [u8; 128],
-) -> Found
-    requires jobs { Jobs s }
-    requires whole_value { whole ≡ size_of s }
-    requires x_value { has s x ≡ true }
-    requires numbers_len { length numbers.old ≡ 128 }
-    ensures part_of { PartOf (holds near.now) s x result.part }
-    ensures size_value { result.size ≡ size_of result.part }
-    ensures marked { Marked (has result.part) number numbers.old numbers.new }
+// The part of s that x falls to: jobs that near joins stay together. Its jobs get the number, and are counted as they are gone through.
+fn part_of(near: &[JobSet; 128], s: Block, x: usize, number: u8, numbers: &mut [u8; 128]) -> Block
+    requires { has s x ≡ true }
+    ensures part_of { PartOf (holds near.now) s x result }
+    ensures marked { Marked (has result) number numbers.old numbers.new }
 {
+    let all = s.jobs;
     let mut todo = JobSet::only(x);
-    let mut rest = s.difference(todo);
+    let mut rest = all.difference(todo);
     let mut size = 0;
     while rest.inhabited() {
         if !todo.inhabited() {
-            return Found {
-                part: s.difference(rest),
+            return Block {
+                jobs: all.difference(rest),
                 size,
             };
         }
@@ -77,25 +61,21 @@ fn part_of(
     }
     // What was found and not gone through.
     mark(todo, number, numbers);
-    Found {
-        part: s,
-        size: whole,
-    }
+    s
 }
 
 // A job of s that no job of s is before. From the smallest job down by the largest ahead of it: few steps where the jobs are numbered
 // forwards or backwards.
-fn first_of(under: &[JobSet; 128], s: JobSet) -> usize
+fn first_of(order: &Compared, s: JobSet) -> usize
     requires jobs { Jobs s }
     requires below_value { exists (has s) (below 128) ≡ true }
-    requires partial { Partial (holds under.now) }
-    ensures { First (holds under.now) s result }
+    ensures { First (holds order.now.under.now) s result }
 {
     let mut x = s.smallest();
-    let mut ahead = under[x].intersection(s);
+    let mut ahead = order.under[x].intersection(s);
     while ahead.inhabited() {
         let y = ahead.largest();
-        let fewer = under[y].intersection(s);
+        let fewer = order.under[y].intersection(s);
         x = y;
         ahead = fewer;
     }
@@ -103,52 +83,54 @@ fn first_of(under: &[JobSet; 128], s: JobSet) -> usize
 }
 
 // Where the next part starts.
-fn start_of(under: &[JobSet; 128], series: bool, s: JobSet) -> usize
+fn start_of(order: &Compared, series: bool, s: JobSet) -> usize
     requires jobs { Jobs s }
     requires below_value { exists (has s) (below 128) ≡ true }
-    requires partial { Partial (holds under.now) }
-    ensures { StartsAt (holds under.now) series s result }
+    ensures { StartsAt (holds order.now.under.now) series s result }
 {
     if series {
-        first_of(under, s)
+        first_of(order, s)
     } else {
         s.smallest()
     }
 }
 
-// The parts of a set of `whole` jobs, one after another, each with how many jobs it has, and how many parts there are; each job of the set gets the number
-// of its part.
-pub fn split(
-    near: &[JobSet; 128],
-    under: &[JobSet; 128],
-    series: bool,
-    s: JobSet,
-    whole: usize,
-    parts: &mut [JobSet; 128],
-    jobs: &mut [u8; 128],
-    numbers: &mut [u8; 128],
-) -> usize
-    requires jobs { Jobs s }
-    requires whole_value { whole ≡ size_of s }
-    requires partial { Partial (holds under.now) }
-    requires parts_len { (length parts.old ≡ 128) × (length jobs.old ≡ 128) × (length numbers.old ≡ 128) }
-    ensures cut { Cut (holds near.now) (holds under.now) series s parts.new result }
-    ensures sized { Sized result parts.new jobs.new }
-    ensures numbered { Numbered s parts.new result numbers.old numbers.new }
-{
-    let mut left = s;
-    let mut size = whole;
-    let mut count = 0;
-    while left.inhabited() {
-        let x = start_of(under, series, left);
-        let found = part_of(near, left, size, x, (count % 256) as u8, numbers);
-        let part = found.part;
-        let fewer = left.difference(part);
-        parts[count] = part;
-        jobs[count] = (found.size % 256) as u8;
-        left = fewer;
-        size -= found.size;
-        count += 1;
+// The parts of a set, as many entries from the first on, and for each job of the set the number that its part was found by.
+#[derive(Drop)]
+pub struct Parts {
+    pub list: [Block; 128],
+    pub count: usize,
+    pub numbers: [u8; 128],
+}
+
+impl Parts {
+    // The parts of s under a relation, as they are found one after another.
+    pub fn split(&mut self, near: &[JobSet; 128], order: &Compared, series: bool, s: Block)
+        ensures cut { Cut (holds near.now) (holds order.now.under.now) series s self.new.list self.new.count }
+        ensures numbered { Numbered s self.new.list self.new.count self.old.numbers self.new.numbers }
+    {
+        let mut left = s;
+        let mut count = 0;
+        while left.jobs.inhabited() {
+            let x = start_of(order, series, left.jobs);
+            let part = part_of(near, left, x, (count % 256) as u8, &mut self.numbers);
+            self.list[count] = part;
+            left = left.without(part);
+            count += 1;
+        }
+        self.count = count;
     }
-    count
+
+    // The parts of s for a group of this kind, in its order.
+    pub fn split_as(&mut self, order: &Compared, series: bool, s: Block)
+        ensures { Taken (close_of series (holds order.now.tied.now) (holds order.now.free.now)) (holds order.now.under.now) series s
+            self.new.list self.new.count self.old.numbers self.new.numbers }
+    {
+        if series {
+            self.split(order.free, order, true, s);
+        } else {
+            self.split(order.tied, order, false, s);
+            arrange::arrange(&mut self.list[..self.count]);
+        }
+    }
 }

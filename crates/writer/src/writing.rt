@@ -34,10 +34,7 @@ pub fn write_record(
     requires all_below { AllBelow (2 ^ hours_bits) hours.now }
     ensures { result ≡ written n hours.now (tree_of n (holds after)) }
 {
-    let shape = tree::shape_of(after, under, n);
-    if !shape.ok {
-        return None;
-    }
+    let shape = tree::shape_of(after, under, n)?;
     let fields = shape.fields;
     let packed = pack::pack(n, &fields[..shape.count], hours);
     let bytes = packed.bytes;

@@ -13,7 +13,8 @@ pub loop-x-init : goal.loop-x-init
 unfolding holds
 loop-x-init c =
     let x = c.smallest-x.ensures in
-    let row = row_read c.args.under.now c.smallest-x.result c.index-under-x.result (omega (arith, x.small)) in
+    let under = c.args.order.now.under.now in
+    let row = row_read under c.smallest-x.result c.index-order-x.result (omega (arith, x.small, c.args.order.now.rows)) in
     record { small = x.small; member = x.member; before = rw row at c.intersection-ahead.ensures }
 
 pub largest-y-requires : goal.largest-y-requires
@@ -23,19 +24,27 @@ pub loop-x-smaller : goal.loop-x-smaller
 unfolding holds
 loop-x-smaller c =
     let y = c.largest-y in
-    let row = row_read c.args.under.now y.result c.index-under-y.result (omega (arith, y.ensures.small)) in
-    down_falls (holds c.args.under.now) c.args.s c.loop-x.x c.loop-x.ahead c.loop-x.invariant y.result c.intersection-fewer.result
-    c.requires.partial y.ensures (rw row at c.intersection-fewer.ensures)
+    let under = c.args.order.now.under.now in
+    let row = row_read under y.result c.index-order-y.result (omega (arith, y.ensures.small, c.args.order.now.rows)) in
+    down_falls (holds c.args.order.now.under.now) c.args.s c.loop-x.x c.loop-x.ahead c.loop-x.invariant y.result c.intersection-fewer.result
+    c.args.order.now.tables.partial y.ensures (rw row at c.intersection-fewer.ensures)
 
 pub loop-x-preserved : goal.loop-x-preserved
 unfolding holds
 loop-x-preserved c =
     let y = c.largest-y in
-    let row = row_read c.args.under.now y.result c.index-under-y.result (omega (arith, y.ensures.small)) in
-    down_next (holds c.args.under.now) c.args.s c.loop-x.x c.loop-x.ahead c.loop-x.invariant y.result c.intersection-fewer.result
+    let under = c.args.order.now.under.now in
+    let row = row_read under y.result c.index-order-y.result (omega (arith, y.ensures.small, c.args.order.now.rows)) in
+    down_next (holds c.args.order.now.under.now) c.args.s c.loop-x.x c.loop-x.ahead c.loop-x.invariant y.result c.intersection-fewer.result
     y.ensures (rw row at c.intersection-fewer.ensures)
 
 pub returns : goal.returns
 returns c =
-    down_end (holds c.args.under.now) c.args.s c.loop-x.x c.loop-x.ahead c.loop-x.invariant c.requires.jobs
+    down_end (holds c.args.order.now.under.now) c.args.s c.loop-x.x c.loop-x.ahead c.loop-x.invariant c.requires.jobs
     (sym c.inhabited.ensures ∙ c.loop-x-test.false)
+
+pub listed : goal.listed
+listed c = omega (arith, c.smallest-x.ensures.small, c.args.order.now.rows)
+
+pub listed-in-loop-x : goal.listed-in-loop-x
+listed-in-loop-x c = omega (arith, c.largest-y.ensures.small, c.args.order.now.rows)

@@ -5,18 +5,10 @@ use Rattle.writer.proofs.Numbering.{jobs_within, marked_halves}
 use Rattle.writer.proofs.parts.mark.Goals as goal
 
 pub mark_each-requires : goal.mark_each-requires
-mark_each-requires c =
-    record {
-      jobs = jobs_within c.args.part c.low.result (λ v. ltb v 64) c.requires.jobs c.low.ensures;
-      numbers_len = c.requires.numbers_len;
-    }
+mark_each-requires c = jobs_within c.args.part c.low.result (λ v. ltb v 64) c.requires c.low.ensures
 
 pub mark_each-requires-2 : goal.mark_each-requires-2
-mark_each-requires-2 c =
-    record {
-      jobs = jobs_within c.args.part c.high.result (λ v. not (ltb v 64)) c.requires.jobs c.high.ensures;
-      numbers_len = c.mark_each.ensures.size;
-    }
+mark_each-requires-2 c = jobs_within c.args.part c.high.result (λ v. not (ltb v 64)) c.requires c.high.ensures
 
 pub returns : goal.returns
 returns c =

@@ -5,7 +5,7 @@ use Rattle.writer.proofs.Numbering.{marking_start, marking_next, marking_end}
 use Rattle.writer.proofs.parts.mark_each.Goals as goal
 
 pub loop-rest-init : goal.loop-rest-init
-loop-rest-init c = marking_start c.args.jobs c.args.number c.args.numbers.now c.requires.numbers_len
+loop-rest-init c = marking_start c.args.jobs c.args.number c.args.numbers.now c.told-numbers
 
 pub smallest-y-requires : goal.smallest-y-requires
 smallest-y-requires c = sym c.inhabited.ensures ∙ c.loop-rest-test.true
@@ -26,5 +26,5 @@ loop-rest-preserved c =
 pub returns : goal.returns
 returns c =
     let l = c.loop-rest in
-    marking_end c.args.jobs c.args.number c.args.numbers.now l.rest l.numbers l.invariant c.requires.jobs
+    marking_end c.args.jobs c.args.number c.args.numbers.now l.rest l.numbers l.invariant c.requires
     (sym c.inhabited.ensures ∙ c.loop-rest-test.false)

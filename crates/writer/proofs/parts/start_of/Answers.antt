@@ -6,8 +6,8 @@ use Rattle.writer.proofs.parts.start_of.Goals as goal
 
 pub returns-then-series : goal.returns-then-series
 returns-then-series c =
-    subst (λ b. StartsAt (holds c.args.under.now) b c.args.s c.first_of.result) (sym c.if-series.true) c.first_of.ensures
+    subst (λ b. StartsAt (holds c.args.order.now.under.now) b c.args.s c.first_of.result) (sym c.if-series.true) c.first_of.ensures
 
 pub returns-else-series : goal.returns-else-series
 returns-else-series c =
-    subst (λ b. StartsAt (holds c.args.under.now) b c.args.s c.smallest.result) (sym c.if-series.false) c.smallest.ensures
+    subst (λ b. StartsAt (holds c.args.order.now.under.now) b c.args.s c.smallest.result) (sym c.if-series.false) c.smallest.ensures
