@@ -5,7 +5,6 @@ use mathlib.Core.List.{List, ◌++◌}
 use native.Mathlib.Omega.{arith}
 use lib.ListN.{length, take, drop, get_or, length-take, get_or-append}
 use lib.Seq.{take_at}
-use borrow.Author.Tests.{ne_eqb}
 use Rattle.std.specs.Prelude.{Result, Ok}
 use Rattle.poset.specs.Areas.{overlay, arc_bytes}
 use Rattle.poset.specs.Order.{Arc, before}
@@ -18,8 +17,8 @@ use Rattle.record.proofs.Sizes.{length_leaves}
 use Rattle.record.proofs.Theorems.{layout_length}
 use Rattle.writer.proofs.Worklist.{reversed_length}
 use Rattle.analysis.specs.Answer.{Answer, answer}
-use Rattle.analysis.specs.Outcome.{roomy, Outcome, refuse, sheet_outcome}
-use Rattle.analysis.specs.Result.{accepted_answer, answer_told, refusal_answer, refused, rooms, Gives}
+use Rattle.analysis.specs.Outcome.{roomy, Outcome, sheet_outcome}
+use Rattle.analysis.specs.Result.{accepted_answer, answer_told, refusal_answer, rooms, Gives}
 use Rattle.analysis.specs.declared.Accepted.{Accepted}
 use Rattle.analysis.specs.declared.Analysis.{Analysis}
 use Rattle.analysis.specs.declared.Refusal.{Refusal}
@@ -30,7 +29,7 @@ use Rattle.analysis.proofs.Inputs.{sheet_fate}
 use Rattle.analysis.proofs.Answers.{sheet_yield}
 use Rattle.analysis.proofs.Telling.{refusal_number}
 use Rattle.analysis.proofs.Crossing.{gives_same}
-use Rattle.printer.specs.Text.{accepted, accepted_text, refused_text, printed}
+use Rattle.printer.specs.Text.{accepted, accepted_text, printed}
 use Rattle.printer.specs.Buffer.{Limits}
 use Rattle.printer.proofs.FirstByte.{first_byte}
 
@@ -124,11 +123,7 @@ sheet_parts s g =
 
 -- what is printed
 
--- of a refusal, by its number and places
-pub refused_whole : {o : Outcome} {told : Told} (r : Refusal) → answer_told told ≡ refusal_answer r → o ≡ refused r
-    → printed (refuse told.number told.first told.second told.third told.fourth) ≡ printed o
-refused_whole r t e = ap printed (ap (λ (a : Answer). refuse a.number a.first a.second a.third a.fourth) t ∙ sym e)
-
+-- a refusal's number is never 0
 pub refused_number : (told : Told) (r : Refusal) → answer_told told ≡ refusal_answer r → 0 < told.number
 refused_number told r t = omega (arith, ap (λ (a : Answer). a.number) t, refusal_number r)
 

@@ -4,7 +4,6 @@ ghost use Rattle.printer.specs.Text.{printed};
 ghost use Rattle.printer.specs.Buffer.{Prints};
 
 use crate::{accepted_text, refused_text};
-use analysis::answer::Answer;
 
 // The whole text for a sheet, at the start of the buffer. Returns its length.
 pub fn sheet_text(sheet: &[u8], out: &mut [u8; 40000]) -> usize
@@ -17,7 +16,7 @@ pub fn sheet_text(sheet: &[u8], out: &mut [u8; 40000]) -> usize
             let accepted = made.accepted;
             let ends = 2 * accepted.arcs;
             // a record's first 7 bits are the job count minus 1
-            let jobs = (bytes[0] as usize) / 2 + 1;
+            let jobs = usize::from(bytes[0]) / 2 + 1;
             accepted_text(
                 accepted.arcs,
                 accepted.groups,
@@ -28,16 +27,6 @@ pub fn sheet_text(sheet: &[u8], out: &mut [u8; 40000]) -> usize
                 out,
             )
         }
-        Err(refusal) => {
-            let told = Answer::from(refusal);
-            refused_text(
-                told.number,
-                told.first,
-                told.second,
-                told.third,
-                told.fourth,
-                out,
-            )
-        }
+        Err(refusal) => refused_text(refusal, out),
     }
 }

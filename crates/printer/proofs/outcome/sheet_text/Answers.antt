@@ -1,6 +1,6 @@
--- A refusal by its number and places, an acceptance by what the areas and the sequences hold.
+-- A refusal as it is, an acceptance by what the areas and the sequences hold.
 use Prim.Native.Nat.{ℕ}
-use mathlib.Core.Path.{◌≡◌, ap, ◌∙◌}
+use mathlib.Core.Path.{sym, ap}
 use mathlib.Core.List.{List}
 use native.Mathlib.Omega.{arith}
 use lib.ListN.{replicate, length-replicate}
@@ -10,8 +10,9 @@ use Rattle.analysis.specs.Outcome.{roomy, sheet_outcome}
 use Rattle.analysis.specs.Result.{rooms, Gives}
 use Rattle.analysis.specs.declared.Analysis.{Analysis}
 use Rattle.analysis.specs.declared.Refusal.{Refusal}
+use Rattle.printer.specs.Text.{printed}
 use Rattle.printer.proofs.Buffers.{prints_of}
-use Rattle.printer.proofs.Given.{Parts, sheet_gives, sheet_parts, refused_whole, refused_number, parts_limits, parts_whole, front_fits, front_size}
+use Rattle.printer.proofs.Given.{Parts, sheet_gives, sheet_parts, parts_limits, parts_whole, front_fits, front_size}
 use Rattle.printer.proofs.outcome.sheet_text.Goals as goal
 use Rattle.printer.proofs.outcome.sheet_text.Goals.{In-Ok}
 
@@ -48,14 +49,10 @@ pub slice_bounds-accepted_text-end-in-Ok : goal.slice_bounds-accepted_text-end-i
 slice_bounds-accepted_text-end-in-Ok c = front_size (parts (goal.at.slice_bounds-accepted_text-end-in-Ok c).In-Ok).arcs_are
 
 pub accepted_text-requires : goal.accepted_text-requires
-accepted_text-requires c = parts_limits (parts (goal.at.accepted_text-requires c).In-Ok) _ (omega arith)
+accepted_text-requires c = rw c.from.ensures (parts_limits (parts (goal.at.accepted_text-requires c).In-Ok) _ (omega arith))
 
 pub returns-in-Ok : goal.returns-in-Ok
-returns-in-Ok c = prints_of (parts_whole (parts (goal.at.returns-in-Ok c).In-Ok)) c.accepted_text.ensures
-
-pub refused_text-requires-clause-number_nonzero : goal.refused_text-requires-clause-number_nonzero
-refused_text-requires-clause-number_nonzero c = refused_number c.from-told.result _ c.from-told.ensures
+returns-in-Ok c = prints_of (parts_whole (parts (goal.at.returns-in-Ok c).In-Ok)) (rw c.from.ensures at c.accepted_text.ensures)
 
 pub returns-in-Err : goal.returns-in-Err
-returns-in-Err c =
-    prints_of (refused_whole _ c.from-told.ensures (given c.args.sheet.now c.in-Err.ensures).refusal_is) c.refused_text.ensures
+returns-in-Err c = prints_of (ap printed (sym (given c.args.sheet.now c.in-Err.ensures).refusal_is)) c.refused_text.ensures

@@ -21,4 +21,4 @@ returns t c =
     let all : c.loop-n.n-index ≡ length c.args.numbers.now = omega arith in
     let bytes = ap (λ k. (t.T.Integer.MAX_STR_LEN + 1) * k) all in
     let written = turn_last _ _ c.args.numbers.now c.word.new.self (omega arith) c.loop-n.invariant in
-    record { text = join (omega arith) (join {r = c.loop-n.self} (omega arith) c.word.ensures written) c.word-2.ensures; most = omega (arith, bytes) }
+    record { text = join {r = c.word-2.new.self} (omega arith) (join (omega arith) c.word.ensures written) c.word-2.ensures; most = omega (arith, bytes) }
