@@ -3,6 +3,7 @@
 #![tactic(auto)]
 
 use analysis::answer::Answer;
+use analysis::{Accepted, Analysis};
 use printer::outcome;
 use std::env::{Env, FillError};
 use std::fmt::Display;
@@ -24,21 +25,24 @@ fn line<T: Display>(rt: &impl Print, word: &str, entries: &[T]) -> io::Result<()
     println!(rt;)
 }
 
+// What a refusal gives beside its answer.
+const NOTHING: Analysis = Analysis {
+    accepted: Accepted {
+        bytes: 0,
+        arcs: 0,
+        groups: 0,
+    },
+    forward: [0; 128],
+    reverse: [0; 128],
+    hours: [0; 128],
+};
+
 // What a record gives: the answer's number and places, the reduced orders as they are written, both sequences and the
-// hours whole, zeros of a refusal. More orders than an area holds are not printed.
+// hours whole. More orders than an area holds are not printed.
 fn print_record(rt: &impl Print, record: &[u8]) -> io::Result<()> {
     let mut area = [0u8; 8192];
     let read = analysis::analyse_record(record, &mut area);
     let told = Answer::from(read);
-    let (forward, reverse, hours) = match read {
-        Ok(read) => {
-            let forward = read.forward;
-            let reverse = read.reverse;
-            let hours = read.hours;
-            (forward, reverse, hours)
-        }
-        Err(_) => ([0; 128], [0; 128], [0; 128]),
-    };
     let places = [
         told.number,
         told.first,
@@ -46,12 +50,13 @@ fn print_record(rt: &impl Print, record: &[u8]) -> io::Result<()> {
         told.third,
         told.fourth,
     ];
-    let arcs = told.second.min(4096);
+    let found = read.unwrap_or(NOTHING);
+    let arcs = found.accepted.arcs.min(4096);
     line(rt, "answer", &places)?;
     line(rt, "arcs", &area[..2 * arcs])?;
-    line(rt, "forward", &forward)?;
-    line(rt, "reverse", &reverse)?;
-    line(rt, "hours", &hours)
+    line(rt, "forward", &found.forward)?;
+    line(rt, "reverse", &found.reverse)?;
+    line(rt, "hours", &found.hours)
 }
 
 // A record's name begins with r.
