@@ -1,13 +1,10 @@
 -- What a reader of sheets gives, and leaves in the lent lists.
-use Rattle.std.specs.Prelude.{◌≡◌, ℕ, ◌+◌, ◌/◌, ◌<◌, ◌≤◌, List, [], ◌∷◌, ◌++◌, length, take, drop, Result, Ok, Err}
+use Rattle.std.specs.Prelude.{◌≡◌, ℕ, ◌+◌, ◌*◌, ◌/◌, ◌<◌, ◌≤◌, List, [], ◌∷◌, ◌++◌, length, take, drop, Result, Ok, Err, IfErr}
 use Rattle.poset.specs.Areas.{overlay, arc_bytes}
 use Rattle.poset.specs.Order.{Arc}
 use Rattle.sheet.specs.Scan.{Read, sheet, broken, State, in_number, after_hours, scan_from}
-use Rattle.sheet.specs.Reading.{Leads, Breaks, at_line}
-use Rattle.sheet.specs.declared.HoursRead.{HoursRead}
-use Rattle.sheet.specs.declared.HoursRead.TheVariants as hours_read
+use Rattle.sheet.specs.Reading.{longest_line, Leads, Breaks, at_line}
 use Rattle.sheet.specs.declared.Reached.{Reached}
-use Rattle.sheet.specs.declared.Reached.TheVariants as reached
 use Rattle.sheet.specs.declared.Sheet.{Sheet}
 use Rattle.sheet.specs.declared.Broken.{Broken}
 
@@ -50,9 +47,14 @@ pub record AddsHours (i h : ℕ) (entry exit : List ℕ) : Type 0 where
 pub record AddsArc (i u v : ℕ) (entry exit : List ℕ) : Type 0 where
   pub adds : (arcs : List Arc) (held : List ℕ) → length arcs ≡ i → entry ≡ listing arcs held → exit ≡ listing (arcs ++ ((u, v) ∷ [])) held
 
+-- a read of order lines in a part of a sheet that starts at a place, as that of a sheet with so many jobs
+abbrev pub in_sheet : ℕ → ℕ → Result ℕ Broken → Result Sheet Broken
+in_sheet start n (Ok m) = Ok (record { jobs = n; arcs = m })
+in_sheet start n (Err b) = Err (record { at = start + b.at })
+
 -- a read of order lines, where these hours were read ahead of them
-pub record ArcsAnswer (hours : List ℕ) (read : Read) (held : List ℕ) (r : Result Sheet Broken) (list : List ℕ) : Type 0 where
-  pub result : r ≡ result_of read
+pub record ArcsAnswer (start n : ℕ) (hours : List ℕ) (read : Read) (held : List ℕ) (r : Result ℕ Broken) (list : List ℕ) : Type 0 where
+  pub result : in_sheet start n r ≡ result_of read
   pub after : hours_in read ≡ hours
   pub listed : list ≡ listing (arcs_in read) held
 
@@ -62,16 +64,16 @@ at_hours n hours left = in_number (after_hours n hours left) 0 0
 
 -- what a scan comes to after the lines of hours
 
-abbrev pub after_hours_read : List ℕ → ℕ → ℕ → List ℕ → HoursRead → Read
-after_hours_read s start n hours (hours_read.Until at) = scan_from (at_line n hours []) (start + at) (drop at s)
-after_hours_read s start n hours (hours_read.Broken place) = broken (start + place) hours []
+abbrev pub after_hours_read : List ℕ → ℕ → ℕ → List ℕ → Result ℕ Broken → Read
+after_hours_read s start n hours (Ok at) = scan_from (at_line n hours []) (start + at) (drop at s)
+after_hours_read s start n hours (Err b) = broken (start + b.at) hours []
 
-abbrev pub HoursWithin : List ℕ → HoursRead → Type 0
-HoursWithin s (hours_read.Until at) = at ≤ length s
-HoursWithin s (hours_read.Broken place) = place ≤ length s
+abbrev pub HoursWithin : List ℕ → Result ℕ Broken → Type 0
+HoursWithin s (Ok at) = at ≤ length s
+HoursWithin s (Err b) = b.at ≤ length s
 
 -- the lines of hours, from the start of s
-pub record ReadsHours (s : List ℕ) (n : ℕ) (held : List ℕ) (r : HoursRead) (list : List ℕ) : Type 0 where
+pub record ReadsHours (s : List ℕ) (n : ℕ) (held : List ℕ) (r : Result ℕ Broken) (list : List ℕ) : Type 0 where
   pub hours : List ℕ
   pub scans : (start : ℕ) → scan_from (at_hours n [] n) start s ≡ after_hours_read s start n hours r
   pub listed : list ≡ hours_listing hours held
@@ -83,25 +85,26 @@ pub record Lists (s : List ℕ) (n : ℕ) (hours : List ℕ) (arcs : List Arc) (
   pub listed : list ≡ listing all held
   pub leads : Leads s (at_line n hours arcs) 0 (at_line n hours all) at
 
-abbrev pub AfterLines : List ℕ → ℕ → ℕ → List ℕ → List Arc → List ℕ → List ℕ → Reached → Type 0
-AfterLines s stop n hours arcs held list (reached.At at m) =
-    (l : Lists s n hours arcs held list at) × (length l.all ≡ m)
-AfterLines s stop n hours arcs held list (reached.Broken place) =
-    (at : ℕ) × (l : Lists s n hours arcs held list at) × (at < stop) × Breaks s (at_line n hours l.all) at place
+abbrev pub AfterLines : List ℕ → ℕ → ℕ → List ℕ → List Arc → List ℕ → List ℕ → Result Reached Broken → Type 0
+AfterLines s stop n hours arcs held list (Ok x) =
+    (l : Lists s n hours arcs held list x.at) × (length l.all ≡ x.arcs)
+AfterLines s stop n hours arcs held list (Err b) =
+    (at : ℕ) × (l : Lists s n hours arcs held list at) × (at < stop) × Breaks s (at_line n hours l.all) at b.at
 
-abbrev pub LinesWithin : List ℕ → ℕ → ℕ → Reached → Type 0
-LinesWithin s stop ahead (reached.At at m) = (stop ≤ at) × (at ≤ length s) × (m ≤ ahead + at)
-LinesWithin s stop ahead (reached.Broken place) = place ≤ length s
+abbrev pub LinesWithin : List ℕ → ℕ → ℕ → Result Reached Broken → Type 0
+LinesWithin s stop ahead (Ok x) = (stop ≤ x.at) × (x.at ≤ length s) × (x.arcs ≤ ahead + x.at)
+LinesWithin s stop ahead (Err b) = b.at ≤ length s
 
 -- at least the lines that begin ahead of `stop`, or those ahead of a fault, where `ahead` arcs are listed already
-pub record ReadsLines (s : List ℕ) (stop ahead : ℕ) (entry list : List ℕ) (r : Reached) : Type 0 where
+pub record ReadsLines (s : List ℕ) (stop ahead : ℕ) (entry list : List ℕ) (r : Result Reached Broken) : Type 0 where
   pub reads
       : (n : ℕ) (hours : List ℕ) (arcs : List Arc) (held : List ℕ) → length arcs ≡ ahead → entry ≡ listing arcs held
       → AfterLines s stop n hours arcs held list r
   pub within : LinesWithin s stop ahead r
 
 -- a read of the order lines in s, where `ahead` arcs are listed already
-pub record AnswersAfter (ahead : ℕ) (s : List ℕ) (start n : ℕ) (entry : List ℕ) (r : Result Sheet Broken) (list : List ℕ) : Type 0 where
+pub record AnswersAfter (ahead : ℕ) (s entry : List ℕ) (r : Result ℕ Broken) (list : List ℕ) : Type 0 where
   pub reads
-      : (hours : List ℕ) (arcs : List Arc) (held : List ℕ) → length arcs ≡ ahead → entry ≡ listing arcs held
-      → ArcsAnswer hours (scan_from (at_line n hours arcs) start s) held r list
+      : (start n : ℕ) (hours : List ℕ) (arcs : List Arc) (held : List ℕ) → length arcs ≡ ahead → entry ≡ listing arcs held
+      → ArcsAnswer start n hours (scan_from (at_line n hours arcs) start s) held r list
+  pub within : IfErr r (λ b. b.at ≤ length s + 2 * longest_line)

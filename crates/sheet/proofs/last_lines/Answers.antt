@@ -1,9 +1,12 @@
 -- `sheet::last_lines` meets its contract. Assumes nothing.
+use Rattle.std.proofs.Common.{◌≡◌, Err, rules}
 use Rattle.sheet.proofs.Lines.{last_done, last_broken}
 use Rattle.sheet.proofs.last_lines.Goals as goal
 
-pub returns-in-At : goal.returns-in-At
-returns-in-At c = last_done c.padded-bytes.ensures c.args.start c.args.count c.in-At.ensures
+pub returns-in_err-reached : goal.returns-in_err-reached
+returns-in_err-reached c =
+    let e : c.from_residual.result ≡ Err c.in_err-reached.field-0.0 = search rules in
+    rw e (last_broken c.padded.ensures c.in_err-reached.ensures)
 
-pub returns-in-Broken : goal.returns-in-Broken
-returns-in-Broken c = last_broken c.padded-bytes.ensures c.args.start c.args.count c.in-Broken.ensures
+pub returns : goal.returns
+returns c = last_done c.padded.ensures c.in_ok-reached.ensures

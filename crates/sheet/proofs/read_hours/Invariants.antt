@@ -2,8 +2,5 @@
 use Rattle.sheet.proofs.Hours.{Timing}
 use Rattle.sheet.proofs.read_hours.Given as goal
 
-abbrev pub invariant-loop-left : goal.invariant-loop-left
-invariant-loop-left l = Timing l.s l.count l.initial.hours l.hours l.at l.job l.left
-
-abbrev pub decreases-loop-left : goal.decreases-loop-left
-decreases-loop-left l = l.left
+abbrev pub invariant-loop-job : goal.invariant-loop-job
+invariant-loop-job l = Timing l.s l.count l.initial.hours l.hours l.at l.job

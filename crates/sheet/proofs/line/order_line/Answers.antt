@@ -1,12 +1,17 @@
 -- `sheet::line::order_line` meets its contract. Assumes nothing.
+use Rattle.std.proofs.Common.{◌≡◌, rules, Err}
 use Rattle.sheet.proofs.Reading.{reads_arc, reads_no_first, reads_no_second}
 use Rattle.sheet.proofs.line.order_line.Goals as goal
 
-pub returns-in-Number-second : goal.returns-in-Number-second
-returns-in-Number-second c = reads_arc c.in-Number.ensures.0 c.in-Number-second.ensures
+pub returns-in_err-from : goal.returns-in_err-from
+returns-in_err-from c =
+    let e : c.from_residual.result ≡ Err c.in_err-from.field-0.0 = search rules in
+    rw e (reads_no_first c.in_err-from.ensures.0)
 
-pub returns-in-Broken-second : goal.returns-in-Broken-second
-returns-in-Broken-second c = reads_no_second c.in-Number.ensures.0 c.in-Broken-second.ensures
+pub returns-in_err-to : goal.returns-in_err-to
+returns-in_err-to c =
+    let e : c.from_residual-in_err-to.result ≡ Err c.in_err-to.field-0.0 = search rules in
+    rw e (reads_no_second c.in_ok-from.ensures.0 c.in_err-to.ensures)
 
-pub returns-in-Broken : goal.returns-in-Broken
-returns-in-Broken c = reads_no_first c.in-Broken.ensures.0
+pub returns : goal.returns
+returns c = reads_arc c.in_ok-from.ensures.0 c.in_ok-to.ensures

@@ -1,24 +1,25 @@
 -- `sheet::number::number` meets its contract. Assumes nothing.
-use Rattle.std.proofs.Common.{inl, inr}
-use Rattle.sheet.proofs.Numeral.{numeral_none, numeral_one, numeral_two, numeral_three}
-use Rattle.sheet.proofs.number.number.Goals.{then-b-gt9-via-then-b-gt9, then-b-gt9-via-else-b-gt9+then-a-eq0}
+use Rattle.std.proofs.Common.{◌∙◌, arith}
+use Rattle.sheet.proofs.Numeral.{no_digit, zero_alone, begun_one, begun_more, begun_last, begun_all}
 use Rattle.sheet.proofs.number.number.Goals as goal
 
-pub returns-then-a-gt9 : goal.returns-then-a-gt9
-returns-then-a-gt9 c = numeral_none c.digit-a.ensures c.if-a-gt9.true
+pub returns-then-s-at-eq48 : goal.returns-then-s-at-eq48
+returns-then-s-at-eq48 g c = let a = c.args in zero_alone g.row.MOST a.s.now a.at c.if-s-at-eq48.true
 
-pub returns-then-b-gt9 : goal.returns-then-b-gt9
-returns-then-b-gt9 c =
-    numeral_one c.digit-a.ensures c.digit-b.ensures c.if-a-gt9.false
-    (elim c.then-b-gt9.branch [
-      | then-b-gt9-via-then-b-gt9 w ↦ inl w.if-b-gt9.true
-      | then-b-gt9-via-else-b-gt9+then-a-eq0 w ↦ inr w.if-a-eq0.true
-    ])
+pub returns-in_err-value : goal.returns-in_err-value
+returns-in_err-value g c =
+    let a = c.args in c.from_residual.ensures ∙ no_digit g.row.MOST a.s.now a.at c.in_err-value.ensures
 
-pub returns-then-c-gt9 : goal.returns-then-c-gt9
-returns-then-c-gt9 c =
-    numeral_two c.digit-a.ensures c.digit-b.ensures c.if-a-gt9.false c.digit-c.ensures c.if-b-gt9.false c.if-a-eq0.false c.if-c-gt9.true
+pub loop-i-init : goal.loop-i-init
+loop-i-init g c =
+    let a = c.args in begun_one g.row.MOST a.s.now a.at (omega (arith, c.requires)) c.in_ok-value.ensures c.if-s-at-eq48.false
+
+pub returns-in_default : goal.returns-in_default
+returns-in_default g c = let a = c.args in begun_last g.row.MOST a.s.now a.at c.loop-i.invariant c.in_default.ensures
+
+pub loop-i-preserved : goal.loop-i-preserved
+loop-i-preserved g c =
+    let a = c.args in begun_more g.row.MOST a.s.now a.at c.loop-i.invariant c.loop-i-test.true c.in-Some.ensures
 
 pub returns : goal.returns
-returns c =
-    numeral_three c.digit-a.ensures c.digit-b.ensures c.if-a-gt9.false c.digit-c.ensures c.if-b-gt9.false c.if-a-eq0.false c.if-c-gt9.false
+returns g c = let a = c.args in begun_all g.row.MOST a.s.now a.at c.loop-i.invariant c.loop-i-test.false

@@ -1,6 +1,0 @@
--- `sheet::line::hours_line` meets its contract. Assumes nothing.
-use Rattle.sheet.proofs.Reading.{number_padded}
-use Rattle.sheet.proofs.line.hours_line.Goals as goal
-
-pub returns : goal.returns
-returns c = number_padded c.padded-bytes.ensures c.last_hours-2.result c.last_hours-2.ensures
