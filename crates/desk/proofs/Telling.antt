@@ -1,20 +1,22 @@
 -- What an analysis gives, told as one number, a longest run, gangs, and a reason.
 use Prim.Native.Nat.{ℕ}
 use mathlib.Core.Path.{◌≡◌, ap, ◌∙◌}
-use mathlib.Core.List.{List}
+use mathlib.Core.List.{List, []}
+use lib.ListN.{length}
+use Rattle.poset.specs.Areas.{padded}
 use Rattle.std.specs.Prelude.{Result}
 use Rattle.analysis.specs.Answer.{Answer}
 use Rattle.analysis.specs.Outcome.{Outcome}
-use Rattle.analysis.specs.Result.{answer_of, analysis_answer, Gives}
+use Rattle.analysis.specs.Result.{refusal_answer, analysis_answer, Gives}
 use Rattle.analysis.specs.declared.Analysis.{Analysis}
 use Rattle.analysis.specs.declared.Refusal.{Refusal}
 use Rattle.desk.specs.Packed.{packed, cut}
-use Rattle.longest.specs.Outcome.{RunOutcome, Shows as ShowsRun}
-use Rattle.longest.specs.declared.LongestRun.{LongestRun}
-use Rattle.gangs.specs.Outcome.{GangOutcome, Shows as ShowsGangs}
-use Rattle.gangs.specs.declared.GangPlan.{GangPlan}
-use Rattle.reason.specs.Outcome.{ReasonOutcome, Shows as ShowsReason}
-use Rattle.reason.specs.declared.Reason.{Reason}
+use Rattle.longest.specs.Outcome as run
+use Rattle.longest.specs.Outcome.{RunOutcome}
+use Rattle.gangs.specs.Outcome as gangs
+use Rattle.gangs.specs.Outcome.{GangOutcome}
+use Rattle.reason.specs.Outcome as reason
+use Rattle.reason.specs.Outcome.{ReasonOutcome}
 use Rattle.desk.specs.Told.{Told, RunTold, GangsTold, ReasonTold}
 use Rattle.desk.proofs.Packing.{Narrow, cut_narrow}
 
@@ -32,28 +34,30 @@ gives_told g w h = record {
   arcs_are = g.arcs_are;
 }
 
-pub tells_run : {o : RunOutcome} {a : LongestRun} {r : ℕ} → ShowsRun o a → Narrow o.verdict → r ≡ packed (cut (answer_of a.verdict))
-    → RunTold o (record { answer = r; total = a.total; count = a.count; jobs = a.jobs })
-tells_run s w h = record {
-  answers = answer_told s.answers w h;
+-- a refusal has its number and nothing else
+
+pub run_refused : {o : RunOutcome} {e : Refusal} {a : Answer} {r : ℕ} → run.ShowsRefusal o e → Narrow o.verdict → a ≡ refusal_answer e → r ≡ packed (cut a)
+    → RunTold o (record { answer = r; total = 0; count = 0; jobs = padded [] })
+run_refused s w e h = record {
+  answers = answer_told (e ∙ s.answers) w h;
   total_is = s.total_is;
-  count_is = s.count_is;
-  jobs_are = s.jobs_are;
+  count_is = ap length s.jobs_are;
+  jobs_are = ap padded s.jobs_are;
 }
 
-pub tells_gangs : {o : GangOutcome} {a : GangPlan} {r : ℕ} → ShowsGangs o a → Narrow o.verdict → r ≡ packed (cut (answer_of a.verdict))
-    → GangsTold o (record { answer = r; count = a.count; hours = a.hours; gangs = a.gangs })
-tells_gangs s w h = record {
-  answers = answer_told s.answers w h;
+pub gangs_refused : {o : GangOutcome} {e : Refusal} {a : Answer} {r : ℕ} → gangs.ShowsRefusal o e → Narrow o.verdict → a ≡ refusal_answer e → r ≡ packed (cut a)
+    → GangsTold o (record { answer = r; count = 0; hours = padded []; gangs = padded [] })
+gangs_refused s w e h = record {
+  answers = answer_told (e ∙ s.answers) w h;
   count_is = s.count_is;
-  hours_are = s.hours_are;
-  gangs_are = s.gangs_are;
+  hours_are = ap padded s.hours_are;
+  gangs_are = ap padded s.gangs_are;
 }
 
-pub tells_reason : {o : ReasonOutcome} {a : Reason} {r : ℕ} → ShowsReason o a → Narrow o.verdict → r ≡ packed (cut (answer_of a.verdict))
-    → ReasonTold o (record { answer = r; rule = a.rule; position = a.position; jobs = a.jobs })
-tells_reason s w h = record {
-  answers = answer_told s.answers w h;
+pub reason_refused : {o : ReasonOutcome} {e : Refusal} {a : Answer} {r : ℕ} → reason.ShowsRefusal o e → Narrow o.verdict → a ≡ refusal_answer e → r ≡ packed (cut a)
+    → ReasonTold o (record { answer = r; rule = 0; position = 0; jobs = 0 })
+reason_refused s w e h = record {
+  answers = answer_told (e ∙ s.answers) w h;
   rule_is = s.rule_is;
   position_is = s.position_is;
   jobs_are = s.jobs_are;

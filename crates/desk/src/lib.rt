@@ -16,6 +16,9 @@ ghost use Rattle.desk.specs.Told.{Told, RunTold, GangsTold, ReasonTold};
 
 use analysis::answer::Answer;
 
+// Acceptance as a number, where no record is written: its places are 0.
+const ACCEPTED: u64 = 0;
+
 // The analysis of a sheet: the record and the reduced orders into the two areas.
 pub fn ordersheet_analyse(sheet: &[u8], bytes: &mut [u8], area: &mut [u8]) -> u64
     ensures { Told (sheet_outcome (rooms bytes.old area.old) sheet.now)
@@ -48,14 +51,22 @@ pub struct Run {
 pub fn ordersheet_longest_run(bytes: &[u8]) -> Run
     ensures { RunTold (run_outcome bytes.now) result }
 {
-    let found = longest::longest_run(bytes);
-    let verdict = found.verdict;
-    let jobs = found.jobs;
-    Run {
-        answer: answer::packed(Answer::from(verdict)),
-        total: found.total as u64,
-        count: found.count as u64,
-        jobs,
+    match longest::longest_run(bytes) {
+        Ok(run) => {
+            let jobs = run.jobs;
+            Run {
+                answer: ACCEPTED,
+                total: run.total as u64,
+                count: run.count as u64,
+                jobs,
+            }
+        }
+        Err(refusal) => Run {
+            answer: answer::packed(Answer::from(refusal)),
+            total: 0,
+            count: 0,
+            jobs: [0; 128],
+        },
     }
 }
 
@@ -73,15 +84,23 @@ pub struct Plan {
 pub fn ordersheet_gangs(bytes: &[u8]) -> Plan
     ensures { GangsTold (gang_outcome bytes.now) result }
 {
-    let plan = gangs::fewest_gangs(bytes);
-    let verdict = plan.verdict;
-    let hours = plan.hours;
-    let gangs = plan.gangs;
-    Plan {
-        answer: answer::packed(Answer::from(verdict)),
-        count: plan.count as u64,
-        hours,
-        gangs,
+    match gangs::fewest_gangs(bytes) {
+        Ok(plan) => {
+            let hours = plan.hours;
+            let gangs = plan.gangs;
+            Plan {
+                answer: ACCEPTED,
+                count: plan.count as u64,
+                hours,
+                gangs,
+            }
+        }
+        Err(refusal) => Plan {
+            answer: answer::packed(Answer::from(refusal)),
+            count: 0,
+            hours: [0; 128],
+            gangs: [0; 128],
+        },
     }
 }
 
@@ -99,13 +118,19 @@ pub struct Reason {
 pub fn ordersheet_reason(bytes: &[u8], first: u16, second: u16) -> Reason
     ensures { ReasonTold (reason_outcome bytes.now first second) result }
 {
-    let found = reason::reason_between(bytes, first, second);
-    let verdict = found.verdict;
-    Reason {
-        answer: answer::packed(Answer::from(verdict)),
-        rule: found.rule as u64,
-        position: found.position as u64,
-        jobs: found.jobs as u64,
+    match reason::reason_between(bytes, first, second) {
+        Ok(found) => Reason {
+            answer: ACCEPTED,
+            rule: u64::from(found.rule),
+            position: found.position as u64,
+            jobs: found.jobs as u64,
+        },
+        Err(refusal) => Reason {
+            answer: answer::packed(Answer::from(refusal)),
+            rule: 0,
+            position: 0,
+            jobs: 0,
+        },
     }
 }
 

@@ -22,9 +22,9 @@ use Rattle.record.proofs.Entries.{made, length_below, entry_padded}
 use Rattle.record.proofs.Sizes.{sum_leaves, length_leaves}
 use Rattle.reader.specs.declared.NodeList.{NodeList}
 use Rattle.reader.proofs.Decoded.{Decoded, same_hours}
-use Rattle.analysis.specs.declared.Verdict.TheVariants as verdict
+use Rattle.analysis.specs.declared.Refusal.TheVariants as refused
 use Rattle.gangs.specs.Gangs.{gang_count, gang, gang_hours}
-use Rattle.gangs.specs.Outcome.{gang_outcome, Shows}
+use Rattle.gangs.specs.Outcome.{gang_outcome, ShowsPlan, ShowsRefusal}
 use Rattle.gangs.specs.Places.{load_of, Written, AllNumbered}
 use Rattle.gangs.proofs.Fewest.{gang_below, count_short, gang_hours_lem}
 
@@ -82,7 +82,7 @@ module _ {bytes : List ℕ} {x : NodeList} (d : Decoded bytes x) {count : ℕ} {
       ∙ sum_zero (λ u. cond (eqb (gang t u) g) (hours_of d.hours u) 0) (below n)
       (λ u _. ap (λ b. cond b (hours_of d.hours u) 0) (eqb_differ (gang t u) g (λ e. omega (arith, gang_below t u))))
 
-  pub shows_gangs : Shows (gang_outcome bytes) (record { verdict = verdict.Accepted 0 0 0; count = count; hours = hours; gangs = gangs })
+  pub shows_gangs : ShowsPlan (gang_outcome bytes) (record { count = count; hours = hours; gangs = gangs })
   unfolding gang_outcome
   shows_gangs =
       rw (gang_outcome, d.decodes)
@@ -97,6 +97,6 @@ module _ {bytes : List ℕ} {x : NodeList} (d : Decoded bytes x) {count : ℕ} {
       })
 
 pub shows_11 : (bytes : List ℕ) → decode bytes ≡ None
-    → Shows (gang_outcome bytes) (record { verdict = verdict.NoRecord; count = 0; hours = padded []; gangs = padded [] })
+    → ShowsRefusal (gang_outcome bytes) refused.NoRecord
 unfolding gang_outcome
 shows_11 bytes e = rw (gang_outcome, e) (record { answers = refl; count_is = refl; hours_are = refl; gangs_are = refl })

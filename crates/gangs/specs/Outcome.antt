@@ -1,14 +1,14 @@
 -- What the call hands back. (Document 02, A.5, and A.3 for every later request: bytes that are no record give 11; acceptance has places of 0, since
 -- no record is written; with a refusal there are no gangs, no hours and no gang numbers.)
-use Rattle.std.specs.Prelude.{ℕ, ◌≡◌, List, [], map, length, get_or}
-use Rattle.std.specs.Prelude.{None, Some}
+use Rattle.std.specs.Prelude.{ℕ, ◌≡◌, List, [], map, length, get_or, None, Some, Result, MatchResult}
 use Rattle.poset.specs.Areas.{padded}
 use Rattle.poset.specs.Lists.{below}
 use Rattle.poset.specs.Order.{Rel}
 use Rattle.record.specs.Layout.{hours_of}
 use Rattle.record.specs.Decode.{decode}
 use Rattle.analysis.specs.Answer.{Answer, answer}
-use Rattle.analysis.specs.Result.{answer_of}
+use Rattle.analysis.specs.Result.{refusal_answer}
+use Rattle.analysis.specs.declared.Refusal.{Refusal}
 use Rattle.gangs.specs.Antichains.{IsFewest, AreLoads}
 use Rattle.gangs.specs.Gangs.{gang_count, gang, gang_hours}
 use Rattle.gangs.specs.declared.GangPlan.{GangPlan}
@@ -35,12 +35,24 @@ gang_outcome bytes =
           }
     ]
 
--- the answer, how many gangs, and in the first entries of 128 the hours of each gang and the gang of each job, the others 0
-pub record Shows (o : GangOutcome) (r : GangPlan) : Type 0 where
-  pub answers : answer_of r.verdict ≡ o.verdict
+-- a plan, by an outcome that is no refusal: how many gangs, and in the first entries of 128 the hours of each gang and the gang of each job, the
+-- others 0
+pub record ShowsPlan (o : GangOutcome) (r : GangPlan) : Type 0 where
+  pub answers : answer 0 0 0 0 0 ≡ o.verdict
   pub count_is : r.count ≡ o.count
   pub hours_are : r.hours ≡ padded o.hours
   pub gangs_are : r.gangs ≡ padded o.gangs
+
+-- a refusal, by an outcome that has its number and nothing else
+pub record ShowsRefusal (o : GangOutcome) (e : Refusal) : Type 0 where
+  pub answers : refusal_answer e ≡ o.verdict
+  pub count_is : 0 ≡ o.count
+  pub hours_are : [] ≡ o.hours
+  pub gangs_are : [] ≡ o.gangs
+
+-- what the call hands back, by the outcome
+abbrev pub Shows : GangOutcome → Result GangPlan Refusal → Type 0
+Shows o r = MatchResult r (ShowsPlan o) (ShowsRefusal o)
 
 -- what is handed back of an order on n jobs with these hours: the fewest gangs, a number for each job, and the hours of each gang
 pub record IsPlan (n : ℕ) (r : Rel) (hours : ℕ → ℕ) (o : GangOutcome) : Type 0 where

@@ -6,35 +6,29 @@ mod numbering;
 
 ghost use Rattle.gangs.specs.Outcome.{gang_outcome, Shows};
 
-use analysis::Verdict;
+use analysis::Refusal;
 
-// The answer, how many gangs, the hours of each gang's jobs together, and the gang of each job; the entries after them are 0. A refusal has a count of
-// 0, and zeros alone.
+// How many gangs, the hours of each gang's jobs together, and the gang of each job; the entries after them are 0.
 #[derive(Clone, Copy)]
 pub struct GangPlan {
-    pub verdict: Verdict,
     pub count: usize,
     pub hours: [u32; 128],
     pub gangs: [u8; 128],
 }
 
 // The gangs of the record that the bytes are.
-pub fn fewest_gangs(bytes: &[u8]) -> GangPlan
+pub fn fewest_gangs(bytes: &[u8]) -> Result<GangPlan, Refusal>
     ensures { Shows (gang_outcome bytes.now) result }
 {
     let Some(read) = reader::read_nodes(bytes) else {
-        return GangPlan {
-            verdict: Verdict::NoRecord,
-            count: 0,
-            hours: [0; 128],
-            gangs: [0; 128],
-        };
+        return Err(Refusal::NoRecord);
     };
     let numbering = numbering::Numbering::of(&read.tokens[..read.count], &read.hours);
-    GangPlan {
-        verdict: Verdict::Accepted(0, 0, 0),
+    let hours = numbering.hours;
+    let gangs = numbering.gangs;
+    Ok(GangPlan {
         count: numbering.count(),
-        hours: numbering.hours,
-        gangs: numbering.gangs,
-    }
+        hours,
+        gangs,
+    })
 }

@@ -1,7 +1,7 @@
 -- A record's nodes as they are read, and what is told of its longest run.
 use Prim.Native.Nat.{ℕ}
 use mathlib.Core.Path.{◌≡◌, refl, ap, ◌∙◌}
-use mathlib.Core.List.{List, []}
+use mathlib.Core.List.{List}
 use Rattle.std.specs.Prelude.{None}
 use native.Mathlib.Omega.{arith}
 use lib.ListN.{length}
@@ -12,18 +12,18 @@ use Rattle.record.specs.Layout.{hours_of}
 use Rattle.record.specs.Decode.{decode}
 use Rattle.reader.specs.declared.NodeList.{NodeList}
 use Rattle.reader.proofs.Decoded.{Decoded, same_hours, once, small}
-use Rattle.analysis.specs.declared.Verdict.TheVariants as verdict
+use Rattle.analysis.specs.declared.Refusal.TheVariants as refused
 use Rattle.longest.specs.Longest.{WorkRun, longest}
-use Rattle.longest.specs.Outcome.{run_outcome, Shows}
+use Rattle.longest.specs.Outcome.{run_outcome, ShowsRun, ShowsRefusal}
 use Rattle.longest.specs.Stack.{Found, Linked, Shown}
 use Rattle.longest.specs.declared.stack.Run.{Run}
 use Rattle.longest.specs.declared.showing.Showing.{Showing}
 use Rattle.longest.proofs.Measures.{run_short, run_of_leaves}
 
 pub shows_11 : (bytes : List ℕ) → decode bytes ≡ None
-    → Shows (run_outcome bytes) (record { verdict = verdict.NoRecord; total = 0; count = 0; jobs = padded [] })
+    → ShowsRefusal (run_outcome bytes) refused.NoRecord
 unfolding run_outcome
-shows_11 bytes e = rw (run_outcome, e) (record { answers = refl; total_is = refl; count_is = refl; jobs_are = refl })
+shows_11 bytes e = rw (run_outcome, e) (record { answers = refl; total_is = refl; jobs_are = refl })
 
 module _ {bytes : List ℕ} {x : NodeList} (d : Decoded bytes x) where
   abbrev pub run : WorkRun
@@ -41,7 +41,7 @@ module _ {bytes : List ℕ} {x : NodeList} (d : Decoded bytes x) where
       }
 
   pub shows_run : (next : List ℕ) (r : Run) (s : Showing) → Found run next r → Shown run.1 s
-      → Shows (run_outcome bytes) (record { verdict = verdict.Accepted 0 0 0; total = r.total; count = s.count; jobs = s.jobs })
+      → ShowsRun (run_outcome bytes) (record { total = r.total; count = s.count; jobs = s.jobs })
   unfolding run_outcome
   shows_run next r s found shown =
       let same : run ≡ longest (hours_of d.hours) d.tree = ap (λ (h : ℕ → ℕ). longest h d.tree) (same_hours d) in

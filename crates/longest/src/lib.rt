@@ -7,38 +7,30 @@ mod stack;
 
 ghost use Rattle.longest.specs.Outcome.{run_outcome, Shows};
 
-use analysis::Verdict;
+use analysis::Refusal;
 
-// The answer, the total of hours, how many jobs the run has, and these, earliest first; the entries after them are 0. A refusal has a total and a
-// count of 0, and zeros alone.
+// The total of hours, how many jobs the run has, and these, earliest first; the entries after them are 0.
 #[derive(Clone, Copy)]
 pub struct LongestRun {
-    pub verdict: Verdict,
     pub total: usize,
     pub count: usize,
     pub jobs: [u8; 128],
 }
 
 // The longest run of the record that the bytes are.
-pub fn longest_run(bytes: &[u8]) -> LongestRun
+pub fn longest_run(bytes: &[u8]) -> Result<LongestRun, Refusal>
     ensures { Shows (run_outcome bytes.now) result }
 {
     let Some(read) = reader::read_nodes(bytes) else {
-        return LongestRun {
-            verdict: Verdict::NoRecord,
-            total: 0,
-            count: 0,
-            jobs: [0; 128],
-        };
+        return Err(Refusal::NoRecord);
     };
     let stack = stack::Stack::of(&read.tokens[..read.count], &read.hours);
     let run = stack.run();
     let shown = showing::shown(&stack.next, run.first, run.last);
     let jobs = shown.jobs;
-    LongestRun {
-        verdict: Verdict::Accepted(0, 0, 0),
+    Ok(LongestRun {
         total: run.total as usize,
         count: shown.count,
         jobs,
-    }
+    })
 }

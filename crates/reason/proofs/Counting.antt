@@ -4,7 +4,7 @@ use mathlib.Core.Path.{◌≡◌, refl, sym, ap, subst, ◌∙◌}
 use mathlib.Core.List.Memᴰ
 use mathlib.Core.List.{List, [], ◌∷◌, ◌++◌, flat_map}
 use native.Mathlib.Omega.{arith}
-use lib.ListN.{length, get_or, drop, length-append}
+use lib.ListN.{length, get_or, drop, length-append, length-drop}
 use lib.Seq.{get_or-drop, drop-drop}
 use Rattle.poset.specs.Tree as Tree
 use Rattle.poset.specs.Tree.{Kind, Tree, leaf, node, Forest, leaves, forest_leaves}
@@ -56,6 +56,23 @@ module _ (list : List ℕ) (i : ℕ) where
         },
       )
 
+  pub ahead_room : (t : Tree) (ts : List Tree) → Ahead list i (t ∷ ts) → i < length list
+  unfolding flat_map
+  ahead_room t ts a =
+      omega (
+        arith,
+        ap length a.these,
+        length-drop i list,
+        length-append (flat_map tokens (t ∷ ts)) a.after,
+        length-append (tokens t) (flat_map tokens ts),
+        tokens_length t,
+        groups_lt t,
+      )
+
+  -- in the part from there on
+  pub ahead_part : (ts : List Tree) → Ahead list i ts → Ahead (drop i list) 0 ts
+  ahead_part ts a = record { after = a.after; these = a.these; room = omega (arith, a.room); small = a.small }
+
 module _ (list : List ℕ) (s : Tree) where
   -- so many trees to come from node i on, and the jobs counted so far
   pub record Counted (i trees jobs : ℕ) : Type 0 where
@@ -83,11 +100,10 @@ module _ (list : List ℕ) (s : Tree) where
     none_coming [] (number, a, all) none = omega (arith, all)
     none_coming (t ∷ ts) (number, a, all) none = absurd (omega (arith, number))
 
-    room_coming : (ts : List Tree) → Coming ts → 0 < trees → i < 256
+    room_coming : (ts : List Tree) → Coming ts → 0 < trees → i < length list
     unfolding flat_map
     room_coming [] (number, a, all) some = absurd (omega (arith, number))
-    room_coming (t ∷ ts) (number, a, all) some =
-        omega (arith, a.room, length-append (tokens t) (flat_map tokens ts), tokens_length t, groups_lt t)
+    room_coming (t ∷ ts) (number, a, all) some = ahead_room list i t ts a
 
     leaf_coming : (ts : List Tree) → Coming ts → 0 < trees → get_or list i 0 < 256 → Counted (i + 1) (trees - 1) (jobs + 1)
     unfolding leaves flat_map
@@ -121,7 +137,7 @@ module _ (list : List ℕ) (s : Tree) where
     pub counted_all : trees ≤ 0 → jobs ≡ length (leaves s)
     counted_all = none_coming i trees jobs c.coming coming_is
 
-    pub counted_room : 0 < trees → i < 256
+    pub counted_room : 0 < trees → i < length list
     counted_room = room_coming i trees jobs c.coming coming_is
 
     pub counted_leaf : 0 < trees → get_or list i 0 < 256 → Counted (i + 1) (trees - 1) (jobs + 1)

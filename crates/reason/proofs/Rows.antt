@@ -18,7 +18,7 @@ use Rattle.record.specs.Tokens.{group_token}
 use Rattle.record.proofs.Sizes.{kind_below, trees_length}
 use Rattle.reader.specs.Nodes.{Step, one_leaf, one_group, Fits}
 use Rattle.reader.proofs.Pending.{children_row, row_length, step_fits, few_children}
-use Rattle.reason.specs.Rows.{met, mark_of, marked, low_of, Rowed}
+use Rattle.reason.specs.Rows.{met, mark_of, mark_number, marked, low_of, Rowed}
 use Rattle.reason.specs.declared.seeking.Row.{Row}
 
 -- the mark by its tests: the first is there, the second is, they are one, the first is ahead
@@ -160,29 +160,25 @@ leaf_in j ts = Memᴰ.head refl
 -- a leaf more, and a group more
 
 module _ (u v : ℕ) (row : Row) where
-  pub leaf_rowed : (j : ℕ) (ts : List Tree) → Fits (leaf j ∷ ts) → Rowed u v ts row
-      → Rowed u v (leaf j ∷ ts)
-      (record {
-        height = row.height + 1;
-        low = cond (eqb row.mark 7) (row.height + 1) row.low;
-        mark = marked u v j row.mark;
-      })
+  pub leaf_rowed : (j : ℕ) (ts : List Tree) → Fits (leaf j ∷ ts) → Rowed u v ts row → (r : Row) → r.height ≡ row.height + 1
+      → r.low ≡ cond (eqb (mark_number row.mark) 7) (row.height + 1) row.low → mark_number r.mark ≡ marked u v j (mark_number row.mark)
+      → Rowed u v (leaf j ∷ ts) r
   unfolding leaves flat_map
-  leaf_rowed j ts fits r =
+  leaf_rowed j ts fits was r height low mark =
       record {
-        height_is = omega (arith, r.height_is);
-        low_is = low;
-        mark_is = ap (marked u v j) r.mark_is ∙ sym (mark_more u v j (flat_map leaves ts) (fits.once j));
+        height_is = omega (arith, was.height_is);
+        low_is = low ∙ low_more;
+        mark_is = mark ∙ ap (marked u v j) was.mark_is ∙ sym (mark_more u v j (flat_map leaves ts) (fits.once j));
       }
     where
-      none : eqb row.mark 7 ≡ not (met u v (flat_map leaves ts))
-      none = ap (λ (m : ℕ). eqb m 7) r.mark_is ∙ mark_none u v (flat_map leaves ts)
+      none : eqb (mark_number row.mark) 7 ≡ not (met u v (flat_map leaves ts))
+      none = ap (λ (m : ℕ). eqb m 7) was.mark_is ∙ mark_none u v (flat_map leaves ts)
 
-      low : cond (eqb row.mark 7) (row.height + 1) row.low ≡ low_of u v (leaf j ∷ ts)
-      low =
+      low_more : cond (eqb (mark_number row.mark) 7) (row.height + 1) row.low ≡ low_of u v (leaf j ∷ ts)
+      low_more =
           ⊎_elim
-          (λ (e : met u v (flat_map leaves ts) ≡ true). rw (none ∙ ap not e, e) r.low_is)
-          (λ (e : met u v (flat_map leaves ts) ≡ false). rw (none ∙ ap not e, e) (omega (arith, r.height_is)))
+          (λ (e : met u v (flat_map leaves ts) ≡ true). rw (none ∙ ap not e, e) was.low_is)
+          (λ (e : met u v (flat_map leaves ts) ≡ false). rw (none ∙ ap not e, e) (omega (arith, was.height_is)))
           (decided (met u v (flat_map leaves ts)))
 
   pub group_rowed : (k : Kind) (t : Tree) (f : Forest) (rest : List Tree) → Rowed u v (t ∷ trees f ++ rest) row
@@ -210,15 +206,11 @@ module _ (u v : ℕ) (row : Row) where
   pub row_few : (token : ℕ) (ts us : List Tree) → Step token ts us → Fits us → Rowed u v ts row → row.height ≤ 128
   row_few token ts us step fits r = omega (arith, r.height_is, row_length ts, (step_fits step fits).small.1)
 
-  pub leaf_taken : (token : ℕ) (ts us : List Tree) → Step token ts us → Fits us → Rowed u v ts row → token < 256
-      → Rowed u v us
-      (record {
-        height = row.height + 1;
-        low = cond (eqb row.mark 7) (row.height + 1) row.low;
-        mark = marked u v token row.mark;
-      })
-  leaf_taken token ts us (one_leaf j) fits r low = leaf_rowed u v row j ts fits r
-  leaf_taken token ts us (one_group k t f) fits r low = absurd (omega arith)
+  pub leaf_taken : (token : ℕ) (ts us : List Tree) → Step token ts us → Fits us → Rowed u v ts row → token < 256 → (r : Row) → r.height ≡ row.height + 1
+      → r.low ≡ cond (eqb (mark_number row.mark) 7) (row.height + 1) row.low → mark_number r.mark ≡ marked u v token (mark_number row.mark)
+      → Rowed u v us r
+  leaf_taken token ts us (one_leaf j) fits was low = leaf_rowed u v row j ts fits was
+  leaf_taken token ts us (one_group k t f) fits was low = absurd (omega arith)
 
   pub group_taken : (token : ℕ) (ts us : List Tree) → Step token ts us → Fits us → Rowed u v ts row → 256 ≤ token
       → (token % 128 ≤ row.height)

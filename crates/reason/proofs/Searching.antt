@@ -29,15 +29,14 @@ use Rattle.reader.specs.Nodes.{Step, one_leaf, one_group, Fits}
 use Rattle.reader.proofs.Pending.{spells, pending, pending_end, pending_drop, trees_tokens, children_row, row_step, row_fits, nodes_few}
 use Rattle.reason.specs.Claims.{LowestAt}
 use Rattle.reason.specs.Lowest.{preorder, forest_preorder, over, child_of, rule}
-use Rattle.reason.specs.Rows.{met, mark_of, Rowed, rule_by, Sought, Ahead, Decided}
+use Rattle.reason.specs.Outcome.{rule_number}
+use Rattle.reason.specs.Rows.{met, mark_of, mark_number, GoesOn, Rowed, rule_by, Sought, Ahead, Decided}
+use Rattle.reason.specs.declared.Rule.{Rule}
+use Rattle.reason.specs.declared.seeking.Mark.TheVariants as mark
 use Rattle.reason.specs.declared.seeking.Row.{Row}
 use Rattle.reason.proofs.Lowest.{token, in_over, over_in, NoneOver, stands_node, node_good}
 use Rattle.reason.proofs.Rows.{mark_both, low_most, low_kept, low_above}
 use Rattle.reason.proofs.Ruling.{two_or_three, series_rule, node_rule}
-
--- the search goes on
-abbrev pub GoesOn : Row → Type 0
-GoesOn row = (3 < row.mark) ⊎ (row.low < row.height)
 
 -- the first tree of a row is over both jobs exactly where the row has both and the trees after it have neither
 
@@ -67,14 +66,14 @@ module _ (u v : ℕ) (s : Tree) (rest : List Tree) (fits : Fits (s ∷ rest)) wh
       (or_cases (member u others) (member v others) e))
 
   module _ (row : Row) (r : Rowed u v (s ∷ rest) row) where
-    marks : ltb row.mark 4 ≡ (member u (flat_map leaves (s ∷ rest)) && member v (flat_map leaves (s ∷ rest)))
+    marks : ltb (mark_number row.mark) 4 ≡ (member u (flat_map leaves (s ∷ rest)) && member v (flat_map leaves (s ∷ rest)))
     marks = ap (λ (m : ℕ). ltb m 4) r.mark_is ∙ mark_both u v (flat_map leaves (s ∷ rest))
 
     pub is_over : (GoesOn row → ⊥) → over u v s ≡ true
     unfolding over
     is_over ends =
-        let low : 3 < row.mark → ⊥ = λ h. ends (inl h) in
-        let here = sym marks ∙ lt_true row.mark 4 (omega arith) in
+        let low : 3 < mark_number row.mark → ⊥ = λ h. ends (inl h) in
+        let here = sym marks ∙ lt_true (mark_number row.mark) 4 (omega arith) in
         and_intro (member u (leaves s)) (member v (leaves s))
         (under u (and_left (member u (flat_map leaves (s ∷ rest))) _ here) (λ h. bare (or_left (member u others) _ h)))
         (under v (and_right (member u (flat_map leaves (s ∷ rest))) _ here) (λ h. bare (or_right (member u others) _ h)))
@@ -92,7 +91,7 @@ module _ (u v : ℕ) (s : Tree) (rest : List Tree) (fits : Fits (s ∷ rest)) wh
         stops h (inl l) =
             let (p, q) = both_under h in
             let here = and_intro _ _ (in_row u ∙ or_left (member u (leaves s)) _ p) (in_row v ∙ or_left (member v (leaves s)) _ q) in
-            omega (arith, ltb-true row.mark 4 (marks ∙ here))
+            omega (arith, ltb-true (mark_number row.mark) 4 (marks ∙ here))
         stops h (inr l) = omega (arith, r.low_is, r.height_is, low_above u v s [] rest (none_after h))
 
   -- the rule by the token of a lowest node and the mark of its row
@@ -169,6 +168,10 @@ rule_by_lem u v (node parallel t f) rest fits r good at =
 
 -- the search
 
+-- the row of no trees
+abbrev pub none_met : Row
+none_met = record { height = 0; low = 0; mark = mark.Neither }
+
 module _ (u v : ℕ) (t : Tree) (list : List ℕ) (count : ℕ) (x : Sought u v t list count) where
   abbrev row : ℕ → List Tree
   row i = pending i (spells t)
@@ -194,12 +197,12 @@ module _ (u v : ℕ) (t : Tree) (list : List ℕ) (count : ℕ) (x : Sought u v 
   unfolding member exists flat_map
   no_mark = refl
 
-  pub searched_none : Searched count (record { height = 0; low = 0; mark = 7 })
+  pub searched_none : Searched count none_met
   unfolding flat_map
   searched_none =
       record {
         inside = omega arith;
-        rowed = subst (λ (ts : List Tree). Rowed u v ts (record { height = 0; low = 0; mark = 7 })) (sym row_end)
+        rowed = subst (λ (ts : List Tree). Rowed u v ts none_met) (sym row_end)
             (record { height_is = refl; low_is = refl; mark_is = sym no_mark });
         none_after = subst (λ (ts : List Tree). NoneOver u v (drop 1 (flat_map preorder ts))) (sym row_end) (λ y m. absurd (mathlib.Core.List.Memᴰ.not-nil m));
       }
@@ -335,14 +338,15 @@ module _ (u v : ℕ) (t : Tree) (list : List ℕ) (count : ℕ) (x : Sought u v 
           subst (λ (k : ℕ). get_or list k 0 ≡ token s) same
           (step_token (row_step t list count x.nodes (suc i) (omega arith) (omega (arith, inside))) s rest (ap row same ∙ headed.2))
 
-      pub decided_at : (k : ℕ) → k ≡ rule_by (get_or list i 0) r.mark → Decided u v t list (record { rule = k; position = i })
+      pub decided_at : (k : Rule) → rule_number k ≡ rule_by (get_or list i 0) (mark_number r.mark)
+          → Decided u v t list (record { rule = k; position = i })
       decided_at k is =
           let good = (means_fits x.jobs (precedes t) t (record { spans = x.spans; agrees = λ u v p q. refl })).good in
           record {
             lowest = s;
             at = at;
             rule_is =
-                is ∙ ap (λ (n : ℕ). rule_by n r.mark) token_is ∙ ap (rule_by (token s)) (rowed s rest headed.2).mark_is
+                is ∙ ap (λ (n : ℕ). rule_by n (mark_number r.mark)) token_is ∙ ap (rule_by (token s)) (rowed s rest headed.2).mark_is
                 ∙ rule_by_lem u v s rest (fits s rest headed.2) (precedes t) (node_good (precedes t) series (stands_node t i at.stands) good) at;
             ahead = ahead;
           }

@@ -5,49 +5,58 @@
 mod seeking;
 
 ghost use Rattle.std.specs.Prelude.{◌≡◌};
-ghost use Rattle.reason.specs.Outcome.{reason_outcome, Shows};
+ghost use Rattle.reason.specs.Outcome.{rule_number, reason_outcome, Shows};
 
-use analysis::Verdict;
+use analysis::Refusal;
 
-// The answer, the rule (1 the same job, 2 the first before the second, 3 the second before the first, 4 free), the position of the lowest group over
-// both jobs, in nodes from 0, and how many jobs are under it; of one job, its leaf's. A refusal has zeros.
+// How two jobs stand: they are one, the first is before the second, the second before the first, or they are free.
+#[derive(Clone, Copy)]
+pub enum Rule {
+    Same,
+    Before,
+    After,
+    Free,
+}
+
+// 1 to 4, in this order.
+impl From<Rule> for u64 {
+    ghost from_gives = { λ rule number. number ≡ rule_number rule };
+
+    fn from(rule: Rule) -> u64 {
+        match rule {
+            Rule::Same => 1,
+            Rule::Before => 2,
+            Rule::After => 3,
+            Rule::Free => 4,
+        }
+    }
+}
+
+// The rule, the position of the lowest group over both jobs, in nodes from 0, and how many jobs are under it; of one job, its leaf's.
 #[derive(Clone, Copy)]
 pub struct Reason {
-    pub verdict: Verdict,
-    pub rule: usize,
+    pub rule: Rule,
     pub position: usize,
     pub jobs: usize,
 }
 
-fn turned_away(verdict: Verdict) -> Reason
-    ensures { result ≡ record { verdict = verdict; rule = 0; position = 0; jobs = 0 } }
-{
-    Reason {
-        verdict,
-        rule: 0,
-        position: 0,
-        jobs: 0,
-    }
-}
-
 // The reason between the first and the second job of the record that the bytes are.
-pub fn reason_between(bytes: &[u8], first: u16, second: u16) -> Reason
+pub fn reason_between(bytes: &[u8], first: u16, second: u16) -> Result<Reason, Refusal>
     ensures { Shows (reason_outcome bytes.now first second) result }
 {
     let u = usize::from(first);
     let v = usize::from(second);
     let Some(read) = reader::read_nodes(bytes) else {
-        return turned_away(Verdict::NoRecord);
+        return Err(Refusal::NoRecord);
     };
     if u >= read.jobs || v >= read.jobs {
-        return turned_away(Verdict::NoJob);
+        return Err(Refusal::NoJob);
     }
-    let tokens = read.tokens;
-    let found = seeking::lowest(&tokens, read.count, u, v);
-    Reason {
-        verdict: Verdict::Accepted(0, 0, 0),
+    let nodes = &read.tokens[..read.count];
+    let found = seeking::lowest(nodes, u, v);
+    Ok(Reason {
         rule: found.rule,
         position: found.position,
-        jobs: seeking::jobs_under(&tokens, found.position),
-    }
+        jobs: seeking::jobs_under(&nodes[found.position..]),
+    })
 }

@@ -3,125 +3,157 @@
 ghost use Rattle.std.specs.Prelude.{◌≡◌, cond, List, [], ◌∷◌, eqb, length};
 ghost use Rattle.poset.specs.Tree.{Tree, leaves};
 ghost use Rattle.reader.specs.Nodes.{Step, Fits};
-ghost use Rattle.reason.specs.Rows.{marked, Rowed, Takes, rule_by, Sought, Decided, Ahead};
+ghost use Rattle.reason.specs.Outcome.{rule_number};
+ghost use Rattle.reason.specs.Rows.{mark_number, marked, Rowed, Takes, Decides, rule_by, Sought, Decided, Ahead};
 
-// height: how many trees. low: how many from the last one on that has one of the jobs, or all where none has. mark: 7 neither job is in the row,
-// 5 the first alone, 6 the second alone; both are: 1 they are one job, 2 the first stands ahead of the second, 3 behind it.
+use crate::Rule;
+
+// Which of the jobs are in a row; of both, whether they are one, or which stands ahead.
+#[derive(Clone, Copy)]
+pub enum Mark {
+    Neither,
+    First,
+    Second,
+    Same,
+    FirstAhead,
+    SecondAhead,
+}
+
+impl Mark {
+    // With one job more ahead.
+    fn with(self, job: usize, first: usize, second: usize) -> Mark
+        ensures { mark_number result ≡ marked first second job (mark_number self) }
+    {
+        if first == job {
+            if second == job {
+                return Mark::Same;
+            }
+            return match self {
+                Mark::Second => Mark::FirstAhead,
+                _ => Mark::First,
+            };
+        }
+        if second == job {
+            return match self {
+                Mark::First => Mark::SecondAhead,
+                _ => Mark::Second,
+            };
+        }
+        self
+    }
+}
+
+// height: how many trees. low: how many from the last one on that has one of the jobs, or all where none has.
 #[derive(Clone, Copy)]
 pub struct Row {
-    pub height: usize,
-    pub low: usize,
-    pub mark: usize,
+    height: usize,
+    low: usize,
+    mark: Mark,
+}
+
+impl Row {
+    // low with a leaf more: the new height where neither job has been met, else as it was.
+    fn raised(self, height: usize) -> usize
+        ensures { result ≡ cond (eqb (mark_number self.mark) 7) height self.low }
+    {
+        match self.mark {
+            Mark::Neither => height,
+            _ => self.low,
+        }
+    }
+
+    // One node more, by its token: a leaf is one tree more, a group takes the place of its children.
+    fn take(self, token: usize, first: usize, second: usize) -> Row
+        requires { (ts us : List Tree) × Step token ts us × Fits us × Rowed first second ts self }
+        ensures { Takes token first second self result }
+    {
+        if token < 256 {
+            let height = self.height + 1;
+            return Row {
+                height,
+                low: self.raised(height),
+                mark: self.mark.with(token, first, second),
+            };
+        }
+        let height = self.height - token % 128;
+        Row {
+            height,
+            low: self.low.min(height),
+            mark: self.mark,
+        }
+    }
+
+    // How the jobs stand in the row, where its first tree is over both.
+    fn decided(self) -> Option<Rule>
+        ensures { Decides self result }
+    {
+        if self.low < self.height {
+            return None;
+        }
+        match self.mark {
+            Mark::Same => Some(Rule::Same),
+            Mark::FirstAhead => Some(Rule::Before),
+            Mark::SecondAhead => Some(Rule::After),
+            Mark::Neither | Mark::First | Mark::Second => None,
+        }
+    }
+}
+
+// The rule of the lowest node, by its token and how the jobs stand in the row: a side group's jobs are free.
+fn rule_at(token: usize, stand: Rule) -> Rule
+    ensures { rule_number result ≡ rule_by token (rule_number stand) }
+{
+    if token < 384 { stand } else { Rule::Free }
 }
 
 // The rule, and the position of the lowest node.
 #[derive(Clone, Copy)]
 pub struct Decision {
-    pub rule: usize,
+    pub rule: Rule,
     pub position: usize,
 }
 
-// The mark with one job more ahead.
-fn marked(job: usize, mark: usize, first: usize, second: usize) -> usize
-    ensures { result ≡ marked first second job mark }
-{
-    if first == job {
-        if second == job {
-            return 1;
-        }
-        if mark == 6 {
-            return 2;
-        }
-        return 5;
-    }
-    if second == job {
-        if mark == 5 {
-            return 3;
-        }
-        return 6;
-    }
-    mark
-}
-
-// low with a leaf more: the new height where neither job has been met, else as it was.
-fn raised(row: Row, height: usize) -> usize
-    ensures { result ≡ cond (eqb row.mark 7) height row.low }
-{
-    if row.mark == 7 { height } else { row.low }
-}
-
-// One node more, by its token: a leaf is one tree more, a group takes the place of its children.
-fn taken(token: usize, row: Row, first: usize, second: usize) -> Row
-    requires { (ts us : List Tree) × Step token ts us × Fits us × Rowed first second ts row }
-    ensures { Takes token first second row result }
-{
-    if token < 256 {
-        let height = row.height + 1;
-        return Row {
-            height: height,
-            low: raised(row, height),
-            mark: marked(token, row.mark, first, second),
-        };
-    }
-    let height = row.height - token % 128;
-    Row {
-        height: height,
-        low: row.low.min(height),
-        mark: row.mark,
-    }
-}
-
-// The rule of the lowest node, by its token: a side group's jobs are free.
-fn rule(token: usize, mark: usize) -> usize
-    ensures { result ≡ rule_by token mark }
-{
-    if token < 384 { mark } else { 4 }
-}
-
 // The lowest node over both jobs of the tree whose nodes these are.
-pub fn lowest(
-    tokens: &[u16; record::NODE_ROOM],
-    count: usize,
-    first: usize,
-    second: usize,
-) -> Decision
-    requires { (t : Tree) × Sought first second t tokens.now count }
-    ensures { (t : Tree) → Sought first second t tokens.now count → Decided first second t tokens.now result }
+pub fn lowest(nodes: &[u16], first: usize, second: usize) -> Decision
+    requires { (t : Tree) × Sought first second t nodes.now (length nodes.now) }
+    ensures { (t : Tree) → Sought first second t nodes.now (length nodes.now) → Decided first second t nodes.now result }
 {
     let mut row = Row {
         height: 0,
         low: 0,
-        mark: 7,
+        mark: Mark::Neither,
     };
-    let mut i = count;
-    while 3 < row.mark || row.low < row.height {
-        i -= 1;
-        let on = taken(usize::from(tokens[i]), row, first, second);
-        row = on;
+    for position in (0..nodes.len()).rev() {
+        let token = usize::from(nodes[position]);
+        row = row.take(token, first, second);
+        if let Some(stand) = row.decided() {
+            return Decision {
+                rule: rule_at(token, stand),
+                position,
+            };
+        }
     }
-    Decision {
-        rule: rule(usize::from(tokens[i]), row.mark),
-        position: i,
-    }
+    unreachable!()
 }
 
-// How many jobs are under the node at `at`: the leaves from there on, as long as a tree is to come.
-pub fn jobs_under(tokens: &[u16; record::NODE_ROOM], at: usize) -> usize
-    requires { (s : Tree) × Ahead tokens.now at (s ∷ []) }
-    ensures { (s : Tree) → Ahead tokens.now at (s ∷ []) → result ≡ length (leaves s) }
+// How many jobs are under the first of these nodes: the leaves from there on, as long as a tree is to come.
+pub fn jobs_under(nodes: &[u16]) -> usize
+    requires { (s : Tree) × Ahead nodes.now 0 (s ∷ []) }
+    ensures { (s : Tree) → Ahead nodes.now 0 (s ∷ []) → result ≡ length (leaves s) }
 {
     let mut trees = 1;
     let mut jobs = 0;
-    let mut i = at;
-    while trees > 0 {
-        let token = usize::from(tokens[i]);
+    for token in nodes {
+        let token = usize::from(*token);
         if token < 256 {
             trees -= 1;
             jobs += 1;
         } else {
             trees += token % 128;
         }
-        i += 1;
+        if trees == 0 {
+            return jobs;
+        }
     }
-    jobs
+    unreachable!()
 }

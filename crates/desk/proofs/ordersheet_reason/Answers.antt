@@ -1,10 +1,7 @@
--- `desk::ordersheet_reason` meets its contract: the call for the reason does, and its answer is narrow.
-use mathlib.Core.Path.{ap, ◌∙◌}
-use Rattle.desk.specs.Packed.{packed, cut}
+-- `desk::ordersheet_reason` meets its contract: the call for the reason does, and a refusal's answer is narrow.
 use Rattle.desk.proofs.Bounds.{reason_narrow}
-use Rattle.desk.proofs.Telling.{tells_reason}
+use Rattle.desk.proofs.Telling.{reason_refused}
 use Rattle.desk.proofs.ordersheet_reason.Goals as goal
 
-pub returns : goal.returns
-returns c =
-    tells_reason c.reason_between-found.ensures (reason_narrow c.args.bytes.now _ _) (c.packed.ensures ∙ ap (λ x. packed (cut x)) c.from.ensures)
+pub returns-in-Err : goal.returns-in-Err
+returns-in-Err c = reason_refused c.in-Err.ensures (reason_narrow c.args.bytes.now _ _) c.from-in-Err.ensures c.packed.ensures

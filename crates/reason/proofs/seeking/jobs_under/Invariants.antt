@@ -1,13 +1,11 @@
--- `seeking::jobs_under` meets its contract. The invariant: the trees to come from node i on have the leaves that are not counted yet.
-use Prim.Native.Nat.{◌-◌}
+-- `seeking::jobs_under` meets its contract. The invariant: the trees to come from the present node on have the leaves that are not counted yet.
+use Prim.Native.Nat.{◌<◌}
 use mathlib.Core.List.{[], ◌∷◌}
 use Rattle.poset.specs.Tree.{Tree}
 use Rattle.reason.specs.Rows.{Ahead}
 use Rattle.reason.proofs.Counting.{Counted}
 use Rattle.reason.proofs.seeking.jobs_under.Given as goal
 
-abbrev pub invariant-loop-trees : goal.invariant-loop-trees
-invariant-loop-trees l = (s : Tree) → Ahead l.tokens l.at (s ∷ []) → Counted l.tokens s l.i l.trees l.jobs
-
-abbrev pub decreases-loop-trees : goal.decreases-loop-trees
-decreases-loop-trees l = 256 - l.i
+abbrev pub invariant-loop-token : goal.invariant-loop-token
+invariant-loop-token l =
+    (0 < l.trees) × ((s : Tree) → Ahead l.nodes 0 (s ∷ []) → Counted l.nodes s l.token-index l.trees l.jobs)

@@ -1,7 +1,8 @@
--- `seeking::taken` meets its contract: a law for a leaf, and one for a group.
+-- `Row::take` meets its contract: a law for a leaf, and one for a group.
+use mathlib.Core.Path.{refl}
 use native.Mathlib.Omega.{arith}
 use Rattle.reason.proofs.Rows.{row_few, leaf_taken, group_taken}
-use Rattle.reason.proofs.seeking.taken.Goals as goal
+use Rattle.reason.proofs.seeking.Row.take.Goals as goal
 
 pub overflow_add-height : goal.overflow_add-height
 overflow_add-height c =
@@ -10,7 +11,7 @@ overflow_add-height c =
 
 pub returns-then-token-lt256 : goal.returns-then-token-lt256
 returns-then-token-lt256 c = λ ts us step fits r.
-    rw (c.raised.ensures, c.marked.ensures) (leaf_taken _ _ _ _ ts us step fits r c.if-token-lt256.true)
+    leaf_taken _ _ _ _ ts us step fits r c.if-token-lt256.true _ refl c.raised.ensures c.with.ensures
 
 pub overflow_sub-height : goal.overflow_sub-height
 overflow_sub-height c =
