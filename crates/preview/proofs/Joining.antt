@@ -1,10 +1,11 @@
 -- A list of arcs with another at its end: its arcs, the first that passes a test, and the table of them all.
-use Prim.Native.Nat.{ℕ, suc, ◌+◌, ◌*◌, ◌/◌, ◌%◌, ◌≤◌, ◌<◌}
+use Prim.Native.Nat.{ℕ, zero, suc, ◌+◌, ◌*◌, ◌/◌, ◌%◌, ◌≤◌, ◌<◌}
 use mathlib.Core.Path.{◌≡◌, refl, sym, ap, ap₂, ◌∙◌}
 use mathlib.Core.List.{List, [], ◌∷◌, ◌++◌}
 use mathlib.Core.Bool.{Bool, true, false, ◌&&◌, ◌||◌, or_assoc}
 use Rattle.std.specs.Prelude.{Option, None, Some, option_map}
 use Rattle.std.specs.Option.{option_or}
+use Rattle.std.specs.Simd.{first_chunks}
 use mathlib.Core.Logic.{⊎_elim}
 use native.Mathlib.Omega.{arith}
 use lib.Dec.{eqb}
@@ -27,6 +28,23 @@ pairs_append (x ∷ y ∷ xs) ys e = ap (λ l. (x, y) ∷ l) (pairs_append xs ys
 
 pub pairs_count : (xs ys : List ℕ) → length (pairs xs ++ pairs ys) ≡ length xs / 2 + length ys / 2
 pairs_count xs ys = omega (arith, length-append (pairs xs) (pairs ys), pairs_length xs, pairs_length ys)
+
+-- the arc at a place, as a list of two
+pub arc_at : {arcs : List (List ℕ)} (xs : List ℕ) (k : ℕ) → arcs ≡ first_chunks 2 (length xs / 2) xs → k < length arcs → length arcs ≡ length xs / 2
+    → (get_or (get_or arcs k []) 0 0 ≡ get_or xs (2 * k) 0) × (get_or (get_or arcs k []) 1 0 ≡ get_or xs (2 * k + 1) 0)
+arc_at {arcs} xs k e l n =
+    let two = ap (λ (c : List (List ℕ)). get_or c k []) e ∙ chunk_at (length xs / 2) xs k (omega arith) (omega arith) in
+    (ap (λ (c : List ℕ). get_or c 0 0) two, ap (λ (c : List ℕ). get_or c 1 0) two)
+  where
+    chunk_at : (n : ℕ) (xs : List ℕ) (k : ℕ) → k < n → 2 * n ≤ length xs
+        → get_or (first_chunks 2 n xs) k [] ≡ get_or xs (2 * k) 0 ∷ get_or xs (2 * k + 1) 0 ∷ []
+    chunk_at zero xs k l m = absurd (omega arith)
+    chunk_at (suc n) [] k l m = absurd (omega arith)
+    chunk_at (suc n) (x ∷ []) k l m = absurd (omega arith)
+    chunk_at (suc n) (x ∷ y ∷ xs) zero l m = refl
+    chunk_at (suc n) (x ∷ y ∷ xs) (suc k) l m =
+        let d : 2 * suc k ≡ suc (suc (2 * k)) = omega arith in
+        let e : suc (suc (2 * k)) + 1 ≡ suc (suc (2 * k + 1)) = omega arith in rw (d, e) (chunk_at n xs k (omega arith) (omega arith))
 
 -- The first that passes a test: in the list, or else in the other, whose places count on.
 

@@ -14,13 +14,7 @@ fn first_of(ahead: Option<usize>, behind: Option<usize>, count: usize) -> Option
     requires { (count < 2 ^ 63) × ((k : ℕ) → behind ≡ Some k → k < 2 ^ 63) }
     ensures { result ≡ option_or ahead (option_map (λ k. count + k) behind) }
 {
-    match ahead {
-        Some(i) => Some(i),
-        None => match behind {
-            Some(k) => Some(count + k),
-            None => None,
-        },
-    }
+    ahead.or(behind.map(|k| count + k))
 }
 
 // The place of the first arc that names a job not below n.
@@ -51,11 +45,9 @@ pub fn table_of(list: &[u16], last: &[u16]) -> [JobSet; 128]
     ensures { (u v : ℕ) → holds result u v ≡ arc (pairs list.now ++ pairs last.now) u v }
 {
     let mut t = arcs::table_of(list);
-    for k in 0..last.len() / 2 {
-        let u = last[2 * k] as usize;
-        let v = last[2 * k + 1] as usize;
-        let row = t[u].union(JobSet::only(v));
-        t[u] = row;
+    let (arcs, _) = last.as_chunks::<2>();
+    for [u, v] in arcs {
+        t[usize::from(*u)].insert(usize::from(*v));
     }
     t
 }

@@ -1,7 +1,6 @@
 -- `order::of_arcs` meets its contract: the closure decides 7, and what is written 8 or acceptance.
 use mathlib.Core.Path.{◌≡◌, sym, ap, ◌∙◌}
 use mathlib.Core.List.{◌++◌}
-use native.Mathlib.Omega.{arith}
 use Rattle.poset.specs.Order.{before}
 use Rattle.relation.specs.Arcs.{pairs}
 use Rattle.relation.specs.Table.{holds}
