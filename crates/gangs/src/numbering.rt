@@ -40,7 +40,8 @@ impl Group {
     }
 }
 
-// The open groups: the present one, how many stand around it, and these, the outermost first.
+// The open groups: the present one, how many stand around it, and these, the outermost first, in a list of a fixed length, since nothing is on the
+// heap.
 #[derive(Clone, Copy)]
 pub struct Groups {
     present: Group,
@@ -84,7 +85,7 @@ pub struct Numbering {
 }
 
 impl Numbering {
-    // One node more, by its token: a leaf's job gets the gang of its place, a group is opened.
+    // One node more, by its token, a number as `Listed` has it: a leaf's job gets the gang of its place, a group is opened.
     fn take(&mut self, token: usize, jobs: &[u16; 128])
         requires { AllBelow (2 ^ hours_bits) jobs.now × ((t : Tree) × (xs : List ℕ) × Ready t jobs.now self.old (token ∷ xs)) }
         ensures { Takes token jobs.now self.old self.new }

@@ -2,14 +2,14 @@
 ghost use Rattle.std.specs.Prelude.{ℕ, ◌≡◌, List};
 ghost use Rattle.longest.specs.Stack.{Linked, Shown};
 
-// How many, and these; then zeros.
+// How many, and these; then zeros: a list of a fixed length, since nothing is on the heap.
 #[derive(Clone, Copy)]
 pub struct Showing {
     pub count: usize,
     pub jobs: [u8; 128],
 }
 
-// The jobs from the first to the last, each followed by its next.
+// The jobs from the first to the last, each followed by its next: a walk that ends at a job, so that no list or range is there to go over.
 pub fn shown(next: &[u8; 128], first: u8, last: u8) -> Showing
     requires { (jobs : List ℕ) × Linked next.now first last jobs }
     ensures { (jobs : List ℕ) → Linked next.now first last jobs → Shown jobs result }

@@ -16,7 +16,8 @@ pub struct Run {
     pub last: u8,
 }
 
-// The runs of the trees in a row from the entry `top` on, and for each job the one after it in its run.
+// The runs of the trees in a row from the entry `top` on, and for each job the one after it in its run. Lists of a fixed length, since nothing is on
+// the heap.
 #[derive(Clone, Copy)]
 pub struct Stack {
     top: usize,
@@ -31,6 +32,7 @@ impl Stack {
         ensures { Joins series end self.old self.new }
     {
         let mut whole = self.runs[end];
+        // by entry: a loop over `self.runs` that writes `self.next` is not covered by the prover
         for k in (self.top..end).rev() {
             let run = self.runs[k];
             self.next[usize::from(run.last)] = whole.first;
@@ -56,7 +58,7 @@ impl Stack {
         self.top = end;
     }
 
-    // One node more, by its token: the run of a leaf goes on top, that of a group takes the place of its children's.
+    // One node more, by its token, a number as `Step` has it: the run of a leaf goes on top, that of a group takes the place of its children's.
     fn take(&mut self, token: usize, hours: &[u16; 128])
         requires { AllBelow (2 ^ hours_bits) hours.now × ((ts us : List Tree) × Step token ts us × Fits us
             × Stacked (hours_of hours.now) ts self.old) }

@@ -62,7 +62,7 @@ impl Row {
         }
     }
 
-    // One node more, by its token: a leaf is one tree more, a group takes the place of its children.
+    // One node more, by its token, a number as `Step` has it: a leaf is one tree more, a group takes the place of its children.
     fn take(self, token: usize, first: usize, second: usize) -> Row
         requires { (ts us : List Tree) × Step token ts us × Fits us × Rowed first second ts self }
         ensures { Takes token first second self result }
