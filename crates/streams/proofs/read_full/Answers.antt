@@ -23,4 +23,5 @@ returns-after-loop-done-clause-reads g c = full c.loop-done.invariant.reads (ome
 
 pub returns-then-len-done-clause-reads : goal.returns-then-len-done-clause-reads
 returns-then-len-done-clause-reads g c =
-    ended c.loop-done.invariant.reads (omega arith) (rw c.if-len-done.true at c.in_ok-len.ensures)
+    let nothing : c.in_ok-len.len ≡ c.loop-done.done = omega arith in
+    ended c.loop-done.invariant.reads (omega arith) (rw nothing at c.in_ok-len.ensures)
