@@ -56,7 +56,8 @@ pub fn bench_joins(arcs: &[u16], n: u16, again: u16) -> usize
     joins
 }
 
-// The same by Warshall's passes, cycle or not.
+// The same by Warshall's passes, cycle or not. Beside the function above: one for both would take a trait or a closure
+// whose clauses are longer than this body.
 pub fn bench_passes(arcs: &[u16], n: u16, again: u16) -> usize
     ensures { result ≡ pass_joins_of n (pairs arcs.now) }
 {
