@@ -27,12 +27,8 @@ fn join_each(rows: &[JobSet; 128], row: JobSet, jobs: JobSet, joins: &mut usize)
 {
     let mut whole = row;
     let mut rest = jobs;
-    while rest.inhabited() {
-        let v = rest.smallest();
-        let others = rest.without_smallest();
-        let more = join(whole, rows[v], joins);
-        whole = more;
-        rest = others;
+    while let Some(v) = rest.pop_first() {
+        whole = join(whole, rows[v], joins);
     }
     whole
 }

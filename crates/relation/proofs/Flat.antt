@@ -42,59 +42,60 @@ pairs_end xs i l = short (drop i xs) (omega (arith, length-drop i xs))
 -- the first arc that passes a test
 
 module _ (p : Arc → Bool) (xs : List ℕ) where
-  -- a search that has come to i
-  pub record Searched (i : ℕ) : Type 0 where
-    pub within : i ≤ length xs
-    pub left : place p (pairs xs) ≡ place_from (i / 2) p (pairs (drop i xs))
+  -- a search that has come to the arc at place k
+  pub record Searched (k : ℕ) : Type 0 where
+    pub within : 2 * k ≤ length xs
+    pub left : place p (pairs xs) ≡ place_from k p (pairs (drop (2 * k) xs))
 
   pub searched_none : Searched 0
   unfolding place
   searched_none = record { within = omega arith; left = refl }
 
-  module _ (i : ℕ) (s : Searched i) where
-    pub searched_end : length xs ≤ i + 1 → None ≡ place p (pairs xs)
+  module _ (k : ℕ) (s : Searched k) where
+    pub searched_end : length xs ≤ 2 * k + 1 → None ≡ place p (pairs xs)
     unfolding place_from
-    searched_end l = sym (s.left ∙ ap (place_from (i / 2) p) (pairs_end xs i l))
+    searched_end l = sym (s.left ∙ ap (place_from k p) (pairs_end xs (2 * k) l))
 
-    pub searched_hit : i + 1 < length xs → p (get_or xs i 0, get_or xs (i + 1) 0) ≡ true → Some (i / 2) ≡ place p (pairs xs)
+    pub searched_hit : 2 * k + 1 < length xs → p (get_or xs (2 * k) 0, get_or xs (2 * k + 1) 0) ≡ true → Some k ≡ place p (pairs xs)
     unfolding place_from
-    searched_hit l h = sym (s.left ∙ rw (pairs_step xs i l, place_from, h))
+    searched_hit l h = sym (s.left ∙ rw (pairs_step xs (2 * k) l, place_from, h))
 
-    pub searched_next : i + 1 < length xs → p (get_or xs i 0, get_or xs (i + 1) 0) ≡ false → Searched (i + 2)
+    pub searched_next : 2 * k + 1 < length xs → p (get_or xs (2 * k) 0, get_or xs (2 * k + 1) 0) ≡ false → Searched (k + 1)
     unfolding place_from
     searched_next l h =
-        let e : (i + 2) / 2 ≡ suc (i / 2) = omega arith in
-        record { within = omega arith; left = rw e (s.left ∙ rw (pairs_step xs i l, place_from, h)) }
+        let e : 2 * (k + 1) ≡ 2 * k + 2 = omega arith in
+        record { within = omega arith; left = rw (e, add-one k) (s.left ∙ rw (pairs_step xs (2 * k) l, place_from, h)) }
 
 -- whether some arc passes a test
 
 module _ (p : Arc → Bool) (xs : List ℕ) where
-  -- a look at all arcs that has come to i
-  pub record Noticed (Some : Bool) (i : ℕ) : Type 0 where
-    pub within : i ≤ length xs
-    pub left : (Some || exists p (pairs (drop i xs))) ≡ exists p (pairs xs)
+  -- a look at all arcs that has come to the arc at place k
+  pub record Noticed (some : Bool) (k : ℕ) : Type 0 where
+    pub within : 2 * k ≤ length xs
+    pub left : (some || exists p (pairs (drop (2 * k) xs))) ≡ exists p (pairs xs)
 
   pub noticed_none : Noticed false 0
   noticed_none = record { within = omega arith; left = refl }
 
-  module _ (Some : Bool) (i : ℕ) (s : Noticed Some i) where
-    pub noticed_end : length xs ≤ i + 1 → Some ≡ exists p (pairs xs)
+  module _ (some : Bool) (k : ℕ) (s : Noticed some k) where
+    pub noticed_end : length xs ≤ 2 * k + 1 → some ≡ exists p (pairs xs)
     unfolding exists
-    noticed_end l = sym (or-false Some) ∙ ap (λ arcs. Some || exists p arcs) (sym (pairs_end xs i l)) ∙ s.left
+    noticed_end l = sym (or-false some) ∙ ap (λ arcs. some || exists p arcs) (sym (pairs_end xs (2 * k) l)) ∙ s.left
 
-    module _ (l : i + 1 < length xs) where
-      pub noticed_hit : p (get_or xs i 0, get_or xs (i + 1) 0) ≡ true → Noticed true (i + 2)
+    module _ (l : 2 * k + 1 < length xs) where
+      pub noticed_hit : p (get_or xs (2 * k) 0, get_or xs (2 * k + 1) 0) ≡ true → Noticed true (k + 1)
       noticed_hit h =
           record {
             within = omega arith;
-            left = sym (or_right Some true refl) ∙ ap (λ b. Some || b) (sym (ap (exists p) (pairs_step xs i l) ∙ any_yes p _ _ h)) ∙ s.left;
+            left = sym (or_right some true refl) ∙ ap (λ b. some || b) (sym (ap (exists p) (pairs_step xs (2 * k) l) ∙ any_yes p _ _ h)) ∙ s.left;
           }
 
-      pub noticed_next : p (get_or xs i 0, get_or xs (i + 1) 0) ≡ false → Noticed Some (i + 2)
+      pub noticed_next : p (get_or xs (2 * k) 0, get_or xs (2 * k + 1) 0) ≡ false → Noticed some (k + 1)
       noticed_next h =
+          let on : 2 * (k + 1) ≡ 2 * k + 2 = omega arith in
           record {
             within = omega arith;
-            left = ap (λ b. Some || b) (sym (ap (exists p) (pairs_step xs i l) ∙ any_not p _ _ h)) ∙ s.left;
+            left = rw on (ap (λ b. some || b) (sym (ap (exists p) (pairs_step xs (2 * k) l) ∙ any_not p _ _ h)) ∙ s.left);
           }
 
 -- where none does there is no first one

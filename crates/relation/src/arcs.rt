@@ -1,7 +1,7 @@
 //! Arcs as a flat list, two numbers for each: what is wrong with them, and the table that they make.
-ghost use Rattle.std.specs.Prelude.{ℕ, ◌+◌, ◌*◌, ◌≤◌, ◌<◌, ◌≡◌, ◌&&◌, ◌||◌, [], eqb, length, get_or};
+ghost use Rattle.std.specs.Prelude.{ℕ, Bool, ◌+◌, ◌*◌, ◌≤◌, ◌<◌, ◌≡◌, ◌&&◌, ◌||◌, [], eqb, length, get_or};
 ghost use Rattle.poset.specs.Lists.{exists};
-ghost use Rattle.poset.specs.Order.{Within, arc};
+ghost use Rattle.poset.specs.Order.{Arc, Within, arc};
 ghost use Rattle.relation.specs.Table.{holds};
 ghost use Rattle.relation.specs.Arcs.{pairs, place, outside, loop};
 
@@ -12,10 +12,8 @@ fn greatest(list: &[u16]) -> u16
     ensures { (i : ℕ) → get_or list.now i 0 ≤ result }
 {
     let mut top = 0;
-    for i in 0..list.len() {
-        if list[i] > top {
-            top = list[i];
-        }
+    for number in list {
+        top = top.max(*number);
     }
     top
 }
@@ -25,14 +23,25 @@ fn some_loop(arcs: &[u16]) -> bool
     ensures { result ≡ exists loop (pairs arcs.now) }
 {
     let mut some = false;
-    let mut i = 0;
-    while i + 1 < arcs.len() {
-        if arcs[i] == arcs[i + 1] {
+    for k in 0..arcs.len() / 2 {
+        if arcs[2 * k] == arcs[2 * k + 1] {
             some = true;
         }
-        i += 2;
     }
     some
+}
+
+// The place of the first arc that passes a test.
+fn first_that<F: Fn(u16, u16) -> bool>(arcs: &[u16], test: F) -> Option<usize>
+    requires { F.IsAlwaysCallable test }
+    ensures { (p : Arc → Bool) → ((u v : ℕ) (b : Bool) → F.post test u v b → b ≡ p (u, v)) → result ≡ place p (pairs arcs.now) }
+{
+    for k in 0..arcs.len() / 2 {
+        if test(arcs[2 * k], arcs[2 * k + 1]) {
+            return Some(k);
+        }
+    }
+    None
 }
 
 // The place of the first arc that names a job not below n.
@@ -42,14 +51,7 @@ pub fn first_outside(arcs: &[u16], n: u16) -> Option<usize>
     if greatest(arcs) < n {
         return None;
     }
-    let mut i = 0;
-    while i + 1 < arcs.len() {
-        if arcs[i] >= n || arcs[i + 1] >= n {
-            return Some(i / 2);
-        }
-        i += 2;
-    }
-    None
+    first_that(arcs, |u, v| u >= n || v >= n)
 }
 
 // The place of the first arc from a job to itself.
@@ -59,14 +61,7 @@ pub fn first_loop(arcs: &[u16]) -> Option<usize>
     if !some_loop(arcs) {
         return None;
     }
-    let mut i = 0;
-    while i + 1 < arcs.len() {
-        if arcs[i] == arcs[i + 1] {
-            return Some(i / 2);
-        }
-        i += 2;
-    }
-    None
+    first_that(arcs, |u, v| u == v)
 }
 
 // The arc at place k into a table.

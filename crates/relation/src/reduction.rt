@@ -88,13 +88,10 @@ fn write_each(u: usize, jobs: JobSet, at: usize, area: &mut [u8]) -> usize
 {
     let mut k = at;
     let mut rest = jobs;
-    while rest.inhabited() {
-        let v = rest.smallest();
+    while let Some(v) = rest.pop_first() {
         area[k] = u as u8;
         area[k + 1] = v as u8;
         k += 2;
-        let others = rest.without_smallest();
-        rest = others;
     }
     k
 }

@@ -30,13 +30,10 @@ fn first_meeting(t: &[JobSet; 128], cs: JobSet, ds: JobSet) -> Option<usize>
     ensures { result ≡ first (λ c. only_if (exists (λ d. has ds d && holds t.now c d) (below 128)) c) (members cs) }
 {
     let mut rest = cs;
-    while rest.inhabited() {
-        let c = rest.smallest();
+    while let Some(c) = rest.pop_first() {
         if ds.intersection(t[c]).inhabited() {
             return Some(c);
         }
-        let others = rest.without_smallest();
-        rest = others;
     }
     None
 }
@@ -93,13 +90,10 @@ fn first_with_a(after: &[JobSet; 128], free: &[JobSet; 128], n: usize, a: usize)
         ≡ first (λ b. first (λ c. first (λ d. only_if (is_n (holds after.now) a b c d) (a, b, c, d)) (below n)) (below n)) (below n) }
 {
     let mut bs = free[a];
-    while bs.inhabited() {
-        let b = bs.smallest();
+    while let Some(b) = bs.pop_first() {
         if let Some(jobs) = first_with_b(after, free, n, a, b) {
             return Some(jobs);
         }
-        let others = bs.without_smallest();
-        bs = others;
     }
     None
 }

@@ -1,5 +1,5 @@
 //! Sets of the jobs below 128, two words each: job v is bit v % 64 of word v / 64.
-ghost use Rattle.std.specs.Prelude.{◌≡◌, ℕ, ◌<◌, ◌≤◌, List, true, false, ◌&&◌, ◌||◌, not, eqb, ltb, length};
+ghost use Rattle.std.specs.Prelude.{◌≡◌, ℕ, ◌<◌, ◌≤◌, List, true, false, ◌&&◌, ◌||◌, not, eqb, ltb, length, MatchOption};
 ghost use Rattle.std.specs.Bool.{xor};
 ghost use Rattle.poset.specs.Lists.{exists, below};
 ghost use Rattle.relation.specs.Table.{bit, has, members, Least, Greatest};
@@ -198,6 +198,19 @@ impl JobSet {
                 words: [0, self.words[1] & (self.words[1] - 1)],
             }
         }
+    }
+
+    // Takes the smallest member out, if there is one.
+    pub fn pop_first(&mut self) -> Option<usize>
+        ensures { MatchOption result (exists (has self.old) (below 128) ≡ false)
+            (λ v. Least self.old v × ((x : ℕ) → has self.new x ≡ (has self.old x && exists (has self.old) (below x)))) }
+    {
+        if !self.inhabited() {
+            return None;
+        }
+        let v = self.smallest();
+        *self = self.without_smallest();
+        Some(v)
     }
 
     // How many members there are.

@@ -11,11 +11,12 @@ pub fn digits(n: usize) -> usize
     requires { n ≤ 128 }
     ensures { (result ≤ 7) × (n ≤ 2 ^ result) }
 {
-    let mut w = 0;
-    while 1 << w < n {
-        w += 1;
+    for w in 0..7 {
+        if n <= 1 << w {
+            return w;
+        }
     }
-    w
+    7
 }
 
 // The first row of a pair after step e: its columns without digit e stay, and the second row's go to those with it.
