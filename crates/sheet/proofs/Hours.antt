@@ -31,16 +31,6 @@ module _ {rest : List ℕ} where
   unfolding endings most
   hours_fault r = leads_within (r.scans (hours_field 0 [] 0) refl refl).0.leads (omega arith)
 
--- the same of what is read there, by what is said of it with the bytes ahead
-
-module _ {rest : List ℕ} (ahead : ℕ) (r : Result Part Broken) (reads : ReadsNumber hours_digits line_endings rest 0 r) where
-  pub hours_read : {x : Part} → moved ahead r ≡ Ok x → ReadsNumber hours_digits line_endings rest 0 (Ok x)
-  hours_read = at_ok (ReadsNumber hours_digits line_endings rest 0) ahead r reads
-
-  pub hours_broken
-      : {f : Broken} → moved ahead r ≡ Err f → (b : Broken) × ReadsNumber hours_digits line_endings rest 0 (Err b) × (f ≡ record { at = ahead + b.at })
-  hours_broken = at_err (ReadsNumber hours_digits line_endings rest 0) ahead r reads
-
 -- the hours of the first jobs, in the lines ahead of a place, are read and listed, and so many lines are left
 pub record Timing (s : List ℕ) (n : ℕ) (held list : List ℕ) (at job : ℕ) : Type 0 where
   pub left : ℕ

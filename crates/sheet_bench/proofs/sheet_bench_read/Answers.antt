@@ -1,7 +1,6 @@
 -- `sheet_bench::sheet_bench_read` meets its contract. Assumes nothing.
 use mathlib.Core.Path.{sym, ap, ◌∙◌}
 use Rattle.sheet_bench.specs.Packed.{packed}
-use borrow.Author.Rules.{rules}
 use Rattle.sheet_bench.proofs.sheet_bench_read.Goals as goal
 
 pub returns-in-Ok : goal.returns-in-Ok
