@@ -4,13 +4,13 @@ use mathlib.Core.Path.{◌≡◌}
 use mathlib.Core.List.{List}
 use native.Mathlib.Omega.{arith}
 use lib.ListN.{length}
+use Rattle.std.specs.Prelude.{Option}
 use Rattle.record.specs.Bits.{bits_of}
-use Rattle.record.specs.Layout.{most_record_bytes, kind_bit}
+use Rattle.record.specs.Layout.{most_record_bytes}
 use Rattle.record.proofs.Bytes.{length_bits_of}
 use Rattle.record.proofs.Fields.{length_bits}
-use Rattle.reader.specs.Fields.{NodeAt}
+use Rattle.reader.specs.Fields.{BeginsGroup}
 use Rattle.reader.specs.Parts.{Lists, place, Ready}
-use Rattle.reader.specs.declared.nodes.Node.{Node}
 use Rattle.reader.specs.declared.parts.Part.{Part}
 use Rattle.poset.specs.Tree.{Kind}
 use Rattle.reader.proofs.Children.{Run}
@@ -24,18 +24,17 @@ abbrev pub children_measure : List ℕ → ℕ → ℕ → ℕ
 children_measure bytes done gone = suc (child_measure bytes done gone)
 
 -- a child of a group: it begins where the children do, or further on
-pub call_child : (k : Kind) {bytes : List ℕ} {n c done gone : ℕ} {w : Lists} {left size least : ℕ} {v : Lists} {p : Part} (m : ℕ)
-    → Run k bytes n c done gone w left size least v p → children_measure bytes done gone ≡ m
-    → (child_measure bytes p.done p.groups < m) × Ready bytes n p.done p.groups v.seen v.next v.hours
+pub call_child : (k : Kind) {bytes : List ℕ} {n c done gone : ℕ} {w : Lists} {i size least : ℕ} {v : Lists} {here there : ℕ} {o : Option Part} (m : ℕ)
+    → Run k bytes n c done gone w i size least v here there o → children_measure bytes done gone ≡ m
+    → (child_measure bytes here there < m) × Ready bytes n here there v
 call_child k m r e = (omega (arith, r.onward), r.ready)
 
 -- the children of a group of kind k: the group's own bits are among those left
-pub call_children : (k : Kind) {bytes : List ℕ} {n done gone : ℕ} {seen next hours : List ℕ} (nd : Node) (m : ℕ)
-    → NodeAt (bits_of bytes) (place done gone) nd → nd.tag ≡ suc (kind_bit k) → Ready bytes n done gone seen next hours → gone + 1 < n
-    → child_measure bytes done gone ≡ m
-    → (children_measure bytes done (gone + 1) < m) × ((nd.value < 128) × Ready bytes n done (gone + 1) seen next hours)
-call_children k {bytes} nd m h tag r less e = (
-  omega (arith, (h.group_at k tag).within, length_bits 7 nd.value, length_bits_of bytes),
+pub call_children : (k : Kind) {bytes : List ℕ} {n done gone : ℕ} {w : Lists} (c m : ℕ)
+    → BeginsGroup (bits_of bytes) (place done gone) k c → Ready bytes n done gone w → gone + 1 < n → child_measure bytes done gone ≡ m
+    → (children_measure bytes done (gone + 1) < m) × ((c < 128) × Ready bytes n done (gone + 1) w)
+call_children k {bytes} c m h r less e = (
+  omega (arith, h.stands.within, length_bits 7 c, length_bits_of bytes),
   (
     h.small,
     record {
@@ -52,6 +51,5 @@ call_children k {bytes} nd m h tag r less e = (
 )
 
 -- the next node
-pub node_place : {bytes : List ℕ} {n done gone : ℕ} {seen next hours : List ℕ} → Ready bytes n done gone seen next hours
-    → place done gone ≤ 8 * most_record_bytes
+pub node_place : {bytes : List ℕ} {n done gone : ℕ} {w : Lists} → Ready bytes n done gone w → place done gone ≤ 8 * most_record_bytes
 node_place r = omega (arith, r.few, r.named, r.opened)

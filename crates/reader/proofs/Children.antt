@@ -2,23 +2,22 @@
 use Prim.Native.Nat.{ℕ, suc, ◌+◌, ◌-◌, ◌^◌, ◌≤◌, ◌<◌, min}
 use mathlib.Core.Path.{◌≡◌, refl, sym, ap, ap₂, subst, ◌∙◌}
 use mathlib.Core.List.{List, ◌++◌, Memᴰ}
-use mathlib.Core.Bool.{Bool, true, false}
-use mathlib.Core.Logic.{inl, ⊎_elim}
+use mathlib.Core.Bool.{true}
+use Rattle.std.specs.Prelude.{Option, None, Some}
 use native.Mathlib.Omega.{arith}
 use lib.ListN.{length, set, length-append, length-set}
 use lib.Seq.{sets, get_or-set_other}
 use Rattle.poset.specs.Tree.{Kind, series, parallel, Tree, Forest, last, more, leaves, forest_leaves, joined, reversed, least, groups, ahead}
 use Rattle.poset.specs.Inner.{OnceForest, first_of, CanonForest}
-use Rattle.poset.proofs.Laws.{decided, clash, same_count_mem}
+use Rattle.poset.proofs.Laws.{same_count_mem}
 use Rattle.poset.proofs.Shape.{leaves_in, forest_leaves_in}
-use Rattle.poset.proofs.Ranks.{ranked}
 use Rattle.poset.proofs.Realizer.{reversed_count}
 use Rattle.record.specs.Bits.{AllBelow, bits_of}
 use Rattle.record.specs.Layout.{hours_bits, more_children, tree_bits, forest_bits}
 use Rattle.record.proofs.Sizes.{length_tree_bits}
 use Rattle.reader.specs.Fields.{At}
 use Rattle.reader.specs.Parts.{Piece, Lists, marked, Strand, place, Ready, Free, Placed, Found, PlainUnder, PlainChildren, of_tree, of_forest}
-use Rattle.reader.specs.Parts.{unread_part, front, behind, longer, longer_next}
+use Rattle.reader.specs.Parts.{front, behind, linked_part, linked_lists}
 use Rattle.reader.specs.declared.parts.Part.{Part}
 use Rattle.reader.proofs.Positions.{at_left, at_right, at_join}
 use Rattle.reader.proofs.Strands.{strand_last, strand_kept, strand_link}
@@ -46,45 +45,6 @@ joined_strand parallel x y p q a b apart l s r =
 front_last : (k : Kind) (X : ℕ → Type 0) (p q : Part) → X p.last → X q.last → X (front k p q).last
 front_last series X p q x y = x
 front_last parallel X p q x y = y
-
-abbrev linked_part : Kind → Part → Part → Part
-linked_part k p q =
-    record {
-      ok = true;
-      done = q.done;
-      groups = q.groups;
-      least = min p.least q.least;
-      first = (front k p q).first;
-      last = (behind k p q).last;
-    }
-
-abbrev linked_lists : Kind → Lists → Part → Part → Lists
-linked_lists k v p q =
-    record { seen = v.seen; forward = v.forward; next = set v.next (front k p q).last (behind k p q).first; hours = v.hours }
-
-module _ (k : Kind) (p q : Part) where
-  longer_first : p.ok ≡ false → longer k p q ≡ q
-  longer_first e = ap (λ (b : Bool). elim b as (λ _. Part) [ false ↦ q | true ↦ linked_part k p q ]) e
-
-  longer_linked : p.ok ≡ true → longer k p q ≡ linked_part k p q
-  longer_linked e = ap (λ (b : Bool). elim b as (λ _. Part) [ false ↦ q | true ↦ linked_part k p q ]) e
-
-  module _ (next : List ℕ) where
-    next_first : p.ok ≡ false → longer_next k p q next ≡ next
-    next_first e = ap (λ (b : Bool). elim b as (λ _. List ℕ) [ false ↦ next | true ↦ set next (front k p q).last (behind k p q).first ]) e
-
-    next_linked : p.ok ≡ true → longer_next k p q next ≡ set next (front k p q).last (behind k p q).first
-    next_linked e = ap (λ (b : Bool). elim b as (λ _. List ℕ) [ false ↦ next | true ↦ set next (front k p q).last (behind k p q).first ]) e
-
-  -- in either case it ends where the child does
-  longer_ends : ((longer k p q).done ≡ q.done) × ((longer k p q).groups ≡ q.groups) × (q.ok ≡ true → (longer k p q).ok ≡ true)
-  longer_ends =
-      ⊎_elim
-      (λ (e : p.ok ≡ true).
-      (ap (λ (x : Part). x.done) (longer_linked e), ap (λ (x : Part). x.groups) (longer_linked e), λ _. ap (λ (x : Part). x.ok) (longer_linked e)))
-      (λ (e : p.ok ≡ false).
-      (ap (λ (x : Part). x.done) (longer_first e), ap (λ (x : Part). x.groups) (longer_first e), λ ok. ap (λ (x : Part). x.ok) (longer_first e) ∙ ok))
-      (decided p.ok)
 
 module _ (k : Kind) (bs : List ℕ) (done gone : ℕ) (w v v' : Lists) (x y : Piece) (p q : Part) where
   joined_placed : Placed bs done gone w v p x → Placed bs p.done p.groups v v' q y → Sound x → Sound y
@@ -134,9 +94,9 @@ pub record Bounded (done : ℕ) (p : Part) : Type 0 where
   pub onward : done ≤ p.done
 
 pub child_bounded : (k : Kind) {bs : List ℕ} {n done gone : ℕ} {w v : Lists} {p : Part} → n ≤ 128
-    → Found of_tree (PlainUnder k) bs n done gone w v p → p.ok ≡ true → Bounded done p
-child_bounded k {p = p} small r ok =
-    let (t, may, free, placed) = r.some ok in
+    → Found of_tree (PlainUnder k) bs n done gone w v (Some p) → Bounded done p
+child_bounded k {p = p} small r =
+    let (t, may, free, placed) = r.some p refl in
     record {
       lasts = omega (arith, free.inside p.last (reversed_in t (strand_last placed.strand)));
       onward = omega (arith, placed.number);
@@ -163,12 +123,14 @@ first_plain : (k : Kind) (c : ℕ) (f : Forest) → PlainChildren k c f → Plai
 first_plain k c (last t) may = (may.1.0, (may.1.1, may.2))
 first_plain k c (more t f) may = (may.1.0, (may.1.1, may.2.0))
 
-module _ (k : Kind) (bs : List ℕ) (n done gone : ℕ) (few : n ≤ 128) (w v : Lists) (p : Part) (Asked : Tree → Type 0)
-    (child : Found of_tree (PlainUnder k) bs n done gone w v p) where
-  -- as no child does
-  none_first : p.ok ≡ false → (c : ℕ) → NoneFrom k c bs Asked n done gone w.seen
-  none_first bad c f may asked free g low s = child.none bad (first_of f) (first_plain k c f may) (first_free k f free) g low (first_at g f s)
+-- as no child does
+none_first : (k : Kind) (bs : List ℕ) (n done gone : ℕ) (w v : Lists) (Asked : Tree → Type 0)
+    → Found of_tree (PlainUnder k) bs n done gone w v None → (c : ℕ) → NoneFrom k c bs Asked n done gone w.seen
+none_first k bs n done gone w v Asked child c f may asked free g low s =
+    child.none refl (first_of f) (first_plain k c f may) (first_free k f free) g low (first_at g f s)
 
+module _ (k : Kind) (bs : List ℕ) (n done gone : ℕ) (few : n ≤ 128) (w v : Lists) (p : Part) (Asked : Tree → Type 0)
+    (child : Found of_tree (PlainUnder k) bs n done gone w v (Some p)) where
   -- the child that was read is the first
   is_first : (t : Tree) → Free n done gone w.seen (of_tree t) → Placed bs done gone w v p (of_tree t) → (f : Forest)
       → Free n done gone w.seen (of_forest k f) → (g : List ℕ) → AllBelow (2 ^ hours_bits) g → At bs (place done gone) (forest_bits g f) → first_of f ≡ t
@@ -253,8 +215,7 @@ module _ (k : Kind) (bs : List ℕ) (n done gone : ℕ) (w : Lists) where
               ∙ h;
         }
 
-    prefix_ready : {bytes : List ℕ} → Ready bytes n done gone w.seen w.next w.hours
-        → Ready bytes n p.done p.groups v.seen v.next v.hours
+    prefix_ready : {bytes : List ℕ} → Ready bytes n done gone w → Ready bytes n p.done p.groups v
     prefix_ready r = record {
       short = r.short;
       few = r.few;
@@ -269,152 +230,141 @@ module _ (k : Kind) (bs : List ℕ) (n done gone : ℕ) (w : Lists) where
     prefix_last : n ≤ 128 → p.last < 128
     prefix_last few = omega (arith, y.free.inside p.last (back_in (sound_forest k y.forest y.once) (strand_last y.placed.strand)))
 
--- any first child
-abbrev Any : Tree → Type 0
-Any t = Unit {0}
+-- what is asked of the next child: after those read, of which the last has m jobs, the smallest x, that it may follow; of the first nothing
+abbrev May : Kind → Option Part → ℕ → ℕ → Tree → Type 0
+May k None m x t = Unit {0}
+May k (Some p) m x t = Follows k m x t
 
--- the loop of a reader: of c + 1 children `left` are to come, the next to follow one of m jobs, the smallest x. The part is not ok before the first
-pub record Run (k : Kind) (bytes : List ℕ) (n c done gone : ℕ) (w : Lists) (left m x : ℕ) (v : Lists) (p : Part) : Type 0 where
-  pub within : left ≤ c + 1
-  pub ready : Ready bytes n p.done p.groups v.seen v.next v.hours
-  pub onward : (done ≤ p.done) × (gone ≤ p.groups)
-  begun : p.ok ≡ true → Prefix k (bits_of bytes) n done gone w v p (c + 1 - left) m x
-  unbegun : p.ok ≡ false → (p.done ≡ done) × (p.groups ≡ gone) × (v ≡ w) × (left ≡ c + 1)
-  missing : (l : ℕ) → left ≡ suc l → NoneFrom k l (bits_of bytes) (Follows k m x) n p.done p.groups v.seen
-      → NoneFrom k c (bits_of bytes) Any n done gone w.seen
+-- the loop of a reader: of c + 1 children i are read, as the part o, and end at `here` and `there`; the last has m jobs, the smallest x
+pub record Run (k : Kind) (bytes : List ℕ) (n c done gone : ℕ) (w : Lists) (i m x : ℕ) (v : Lists) (here there : ℕ) (o : Option Part)
+    : Type 0 where
+  pub within : i ≤ c + 1
+  pub ready : Ready bytes n here there v
+  pub onward : (done ≤ here) × (gone ≤ there)
+  begun : (p : Part) → o ≡ Some p → (p.done ≡ here) × (p.groups ≡ there) × Prefix k (bits_of bytes) n done gone w v p i m x
+  unbegun : o ≡ None → (here ≡ done) × (there ≡ gone) × (v ≡ w) × (i ≡ 0)
+  missing : (l : ℕ) → i + l ≡ c → NoneFrom k l (bits_of bytes) (May k o m x) n here there v.seen
+      → NoneFrom k c (bits_of bytes) (May k None m x) n done gone w.seen
 
--- before the first, more jobs than any child has
-first_follows : (k : Kind) (t : Tree) → length (leaves t) ≤ 128 → Follows k (kept k 129) (kept k 0) t
-first_follows series t l = refl
-first_follows parallel t l = ranked 129 0 (length (leaves t)) (least t) (inl (omega arith))
-
-module _ (k : Kind) (bytes : List ℕ) (n c done gone : ℕ) (w : Lists) (r : Ready bytes n done gone w.seen w.next w.hours) where
-  pub run_begin : (p : Part) → p ≡ unread_part done gone → Run k bytes n c done gone w (c + 1) (kept k 129) (kept k 0) w p
-  run_begin p same = subst (λ (q : Part). Run k bytes n c done gone w (c + 1) (kept k 129) (kept k 0) w q) (sym same) record {
+module _ (k : Kind) (bytes : List ℕ) (n c done gone : ℕ) (w : Lists) (r : Ready bytes n done gone w) where
+  pub run_begin : (m x : ℕ) → Run k bytes n c done gone w 0 m x w done gone None
+  run_begin m x = record {
     within = omega arith;
     ready = r;
     onward = omega arith;
-    begun = λ ok. absurd (clash ok refl);
+    begun = λ p e. absurd (cc);
     unbegun = λ _. (refl, refl, refl, refl);
-    missing = λ l e none f may any free.
-        none f (subst (λ (i : ℕ). PlainChildren k i f) (omega arith) may)
-        (first_follows k (first_of f) (omega (arith, (first_free k f free).room, r.few))) free;
+    missing = λ l e none f may. none f (subst (λ (i : ℕ). PlainChildren k i f) (omega arith) may);
   }
 
-  module _ (left m x : ℕ) (v : Lists) (p : Part) (run : Run k bytes n c done gone w left m x v p) where
+  module _ (i m x : ℕ) (v : Lists) (here there : ℕ) (o : Option Part) (run : Run k bytes n c done gone w i m x v here there o) where
     -- all are read
-    pub run_end : left ≡ 0 → Found (of_forest k) (PlainChildren k c) (bits_of bytes) n done gone w v p
-    run_end e = record {
-      some = λ ok.
-          let y = run.begun ok in
-          (y.forest, (omega (arith, y.trees), y.canon, y.once), y.free, y.placed);
-      none = λ bad. absurd (omega (arith, (run.unbegun bad).3));
+    pub run_end : c + 1 ≤ i → Found (of_forest k) (PlainChildren k c) (bits_of bytes) n done gone w v o
+    run_end all = record {
+      some = λ p e.
+          let y = (run.begun p e).2 in
+          (y.forest, (omega (arith, y.trees, run.within), y.canon, y.once), y.free, y.placed);
+      none = λ e. absurd (omega (arith, (run.unbegun e).3));
     }
 
-    pub run_last : p.ok ≡ true → p.last < 128
-    run_last ok = prefix_last k (bits_of bytes) n done gone w v p (c + 1 - left) m x (run.begun ok) r.few
-
-    module _ (v' : Lists) (q : Part) (child : Found of_tree (PlainUnder k) (bits_of bytes) n p.done p.groups v v' q) (some : 0 < left) where
-      one_less : left ≡ suc (left - 1)
-      one_less = omega arith
+    module _ (v' : Lists) (some : i < c + 1) where
+      rest_is : i + (c - i) ≡ c
+      rest_is = omega arith
 
       -- no child stands there
-      pub run_none : q.ok ≡ false → Found (of_forest k) (PlainChildren k c) (bits_of bytes) n done gone w v' q
-      run_none bad = record {
-        some = λ ok. absurd (clash ok bad);
-        none = λ _ f may free.
-            run.missing (left - 1) one_less
-            (none_first k (bits_of bytes) n p.done p.groups r.few v v' q (Follows k m x) child bad (left - 1)) f may tt free;
+      pub run_none : Found of_tree (PlainUnder k) (bits_of bytes) n here there v v' None
+          → Found (of_forest k) (PlainChildren k c) (bits_of bytes) n done gone w v' None
+      run_none child = record {
+        some = λ p e. absurd (cc);
+        none = λ _ f may.
+            run.missing (c - i) rest_is
+            (none_first k (bits_of bytes) n here there v v' (May k o m x) child (c - i)) f may tt;
       }
 
-      module _ (ok : q.ok ≡ true) where
+      module _ (q : Part) (child : Found of_tree (PlainUnder k) (bits_of bytes) n here there v v' (Some q)) where
         -- as far as the child tells, it may follow
         abbrev Told : Type 0
-        Told = goes_ahead k m x (q.done - p.done) q.least ≡ true
+        Told = goes_ahead k m x (q.done - here) q.least ≡ true
 
         -- which is the child's own
-        told_is : (t : Tree) → Placed (bits_of bytes) p.done p.groups v v' q (of_tree t)
-            → goes_ahead k m x (q.done - p.done) q.least ≡ goes_ahead k m x (length (leaves t)) (least t)
+        told_is : (t : Tree) → Placed (bits_of bytes) here there v v' q (of_tree t)
+            → goes_ahead k m x (q.done - here) q.least ≡ goes_ahead k m x (length (leaves t)) (least t)
         told_is t placed = ap₂ (goes_ahead k m x) (omega (arith, placed.number)) placed.least
 
         -- one stands there, and may not follow
-        pub run_behind : (Told → ⊥) → (p₁ : Part) → p₁.ok ≡ false → Found (of_forest k) (PlainChildren k c) (bits_of bytes) n done gone w v' p₁
-        run_behind other p₁ bad = record {
-          some = λ good. absurd (clash good bad);
-          none = λ _ f may free.
-              let (t, plain, free_t, placed) = child.some ok in
-              run.missing (left - 1) one_less
-              (none_asked k (bits_of bytes) n p.done p.groups r.few v v' q (Follows k m x) child t free_t placed
-              (λ h. other (told_is t placed ∙ h)) (left - 1))
-              f may tt free;
+        pub run_behind : (p : Part) → o ≡ Some p → (Told → ⊥) → Found (of_forest k) (PlainChildren k c) (bits_of bytes) n done gone w v' None
+        run_behind p e other = record {
+          some = λ p e. absurd (cc);
+          none = λ _ f may.
+              let (t, plain, free_t, placed) = child.some q refl in
+              run.missing (c - i) rest_is
+              (none_asked k (bits_of bytes) n here there r.few v v' q (May k o m x) child t free_t placed
+              (λ h. other (told_is t placed ∙ subst (λ (u : Option Part). May k u m x t) e h)) (c - i))
+              f may tt;
         }
 
-        -- the child's lists with that list of next jobs
-        abbrev linked_as : List ℕ → Lists
-        linked_as next = record { seen = v'.seen; forward = v'.forward; next = next; hours = v'.hours }
-
-        abbrev after : Lists
-        after = linked_as (longer_next k p q v'.next)
-
         abbrev m' : ℕ
-        m' = kept k (q.done - p.done)
+        m' = kept k (q.done - here)
 
         abbrev x' : ℕ
         x' = kept k q.least
 
-        child_first : p.ok ≡ false → Prefix k (bits_of bytes) n done gone w v' q 1 m' x'
-        child_first e =
-            let (d, g, l, _) = run.unbegun e in
-            let moved = subst (λ (i : Lists). Found of_tree (PlainUnder k) (bits_of bytes) n p.done p.groups i v' q) l child in
-            let at_done = subst (λ (i : ℕ). Found of_tree (PlainUnder k) (bits_of bytes) n i p.groups w v' q) d moved in
-            let (t, may, free, placed) = (subst (λ (i : ℕ). Found of_tree (PlainUnder k) (bits_of bytes) n done i w v' q) g at_done).some ok in
-            subst (λ (i : ℕ). Prefix k (bits_of bytes) n done gone w v' q 1 (kept k (q.done - i)) x') (sym d)
-            (prefix_first k (bits_of bytes) n done gone w v' q t may free placed)
-
-        as_longer : (p₁ : Part) (l : List ℕ) (number : ℕ) → longer k p q ≡ p₁ → longer_next k p q v'.next ≡ l → number ≡ c + 1 - (left - 1)
-            → Prefix k (bits_of bytes) n done gone w (linked_as l) p₁ number m' x'
-            → Prefix k (bits_of bytes) n done gone w after (longer k p q) (c + 1 - (left - 1)) m' x'
-        as_longer p₁ l number e f g y =
-            subst (λ (i : ℕ). Prefix k (bits_of bytes) n done gone w after (longer k p q) i m' x') g
-            (subst (λ (i : Part). Prefix k (bits_of bytes) n done gone w after i number m' x') (sym e)
-            (subst (λ (i : List ℕ). Prefix k (bits_of bytes) n done gone w (linked_as i) p₁ number m' x') (sym f) y))
-
-        extended : Told → Prefix k (bits_of bytes) n done gone w after (longer k p q) (c + 1 - (left - 1)) m' x'
-        extended told =
-            ⊎_elim
-            (λ (e : p.ok ≡ true).
-            let (t, may, free, placed) = child.some ok in
-            as_longer _ _ _ (longer_linked k p q e) (next_linked k p q v'.next e) (omega (arith, run.within))
-            (prefix_more k (bits_of bytes) n done gone w v p (c + 1 - left) m x (run.begun e) v' q t
-            (omega (arith, r.links, r.few)) (omega (arith, r.marks, r.few)) may free placed
-            (sym (told_is t placed) ∙ told)))
-            (λ (e : p.ok ≡ false).
-            as_longer _ _ _ (longer_first k p q e) (next_first k p q v'.next e) (omega (arith, (run.unbegun e).3)) (child_first e))
-            (decided p.ok)
-
-        -- a child more
-        pub run_more : Told → (p' : Part) (next : List ℕ) → p' ≡ longer k p q → next ≡ longer_next k p q v'.next
-            → Run k bytes n c done gone w (left - 1) m' x' (linked_as next) p'
-        run_more told p' next same_part same_next =
-            let at : Lists = linked_as next in
-            let number : ℕ = c + 1 - (left - 1) in
-            let y : Prefix k (bits_of bytes) n done gone w at p' number m' x' =
-            subst (λ (i : Part). Prefix k (bits_of bytes) n done gone w at i number m' x') (sym same_part)
-            (subst (λ (l : List ℕ). Prefix k (bits_of bytes) n done gone w (linked_as l) (longer k p q) number m' x') (sym same_next) (extended told)) in
-            let dones : p'.done ≡ q.done = ap (λ (i : Part). i.done) same_part ∙ (longer_ends k p q).0 in
-            let groups_same : p'.groups ≡ q.groups = ap (λ (i : Part). i.groups) same_part ∙ (longer_ends k p q).1 in
+        -- with a child more, as the part p of these lists
+        run_with : (lists : Lists) (p : Part) → (p.done ≡ q.done) × (p.groups ≡ q.groups) → lists.seen ≡ v'.seen
+            → Prefix k (bits_of bytes) n done gone w lists p (i + 1) m' x'
+            → Run k bytes n c done gone w (i + 1) m' x' lists q.done q.groups (Some p)
+        run_with lists p same marks y =
+            let ready = prefix_ready k (bits_of bytes) n done gone w lists p (i + 1) m' x' y r in
+            let at_done = subst (λ (d : ℕ). Ready bytes n d p.groups lists) same.0 ready in
             record {
-              within = omega (arith, run.within);
-              ready = prefix_ready k (bits_of bytes) n done gone w at p' number m' x' y r;
-              onward = omega (arith, y.placed.number, y.placed.groups);
-              begun = λ _. y;
-              unbegun = λ bad. absurd (clash (ap (λ (i : Part). i.ok) same_part ∙ (longer_ends k p q).2 ok) bad);
-              missing = λ l e none.
-                  let (t, may, free, placed) = child.some ok in
+              within = omega arith;
+              ready = subst (λ (g : ℕ). Ready bytes n q.done g lists) same.1 at_done;
+              onward = omega (arith, y.placed.number, y.placed.groups, same.0, same.1);
+              begun = λ p' e.
+                  let one : p ≡ p' = cc in
+                  subst (λ (u : Part). (u.done ≡ q.done) × (u.groups ≡ q.groups) × Prefix k (bits_of bytes) n done gone w lists u (i + 1) m' x') one
+                  (same.0, same.1, y);
+              unbegun = λ e. absurd (cc);
+              missing = λ l e none f may.
+                  let (t, _, free, placed) = child.some q refl in
                   run.missing (suc l) (omega arith)
-                  (none_after k (bits_of bytes) n p.done p.groups r.few v v' q (Follows k m x) child t free placed l
+                  (none_after k (bits_of bytes) n here there r.few v v' q (May k o m x) child t free placed l
                   (λ f plain leads.
-                  subst (λ (d : ℕ). NoneFrom k l (bits_of bytes) (Follows k m' x') n d q.groups v'.seen) dones
-                  (subst (λ (g : ℕ). NoneFrom k l (bits_of bytes) (Follows k m' x') n p'.done g v'.seen) groups_same none)
-                  f plain (kept_ahead k t (first_of f) (q.done - p.done) q.least (omega (arith, placed.number)) placed.least ∙ leads)));
+                  subst (λ (s : List ℕ). NoneFrom k l (bits_of bytes) (Follows k m' x') n q.done q.groups s) marks none
+                  f plain (kept_ahead k t (first_of f) (q.done - here) q.least (omega (arith, placed.number)) placed.least ∙ leads)))
+                  f may;
             }
+
+        -- the first child
+        pub run_first : o ≡ None → Run k bytes n c done gone w (i + 1) m' x' v' q.done q.groups (Some q)
+        run_first e =
+            let (d, g, l, z) = run.unbegun e in
+            let moved = subst (λ (i : Lists). Found of_tree (PlainUnder k) (bits_of bytes) n here there i v' (Some q)) l child in
+            let at_done = subst (λ (i : ℕ). Found of_tree (PlainUnder k) (bits_of bytes) n i there w v' (Some q)) d moved in
+            let (t, may, free, placed) =
+            (subst (λ (i : ℕ). Found of_tree (PlainUnder k) (bits_of bytes) n done i w v' (Some q)) g at_done).some q refl in
+            run_with v' q (refl, refl) refl
+            (subst (λ (i : ℕ). Prefix k (bits_of bytes) n done gone w v' q (i + 1) m' x') (sym z)
+            (subst (λ (i : ℕ). Prefix k (bits_of bytes) n done gone w v' q 1 (kept k (q.done - i)) x') (sym d)
+            (prefix_first k (bits_of bytes) n done gone w v' q t may free placed)))
+
+        module _ (p : Part) (e : o ≡ Some p) where
+          pub run_last : p.last < 128
+          run_last = prefix_last k (bits_of bytes) n done gone w v p i m x (run.begun p e).2 r.few
+
+          -- a child more
+          pub run_more : Told
+              → Run k bytes n c done gone w (i + 1) m' x' (linked_lists k v' p q) q.done q.groups (Some (linked_part k p q))
+          run_more told =
+              let (d, g, y) = run.begun p e in
+              let moved = subst (λ (i : ℕ). Found of_tree (PlainUnder k) (bits_of bytes) n i there v v' (Some q)) (sym d) child in
+              let (t, may, free, placed) =
+              (subst (λ (i : ℕ). Found of_tree (PlainUnder k) (bits_of bytes) n p.done i v v' (Some q)) (sym g) moved).some q refl in
+              let more =
+              prefix_more k (bits_of bytes) n done gone w v p i m x y v' q t
+              (omega (arith, r.links, r.few)) (omega (arith, r.marks, r.few)) may free placed
+              (sym (ap₂ (goes_ahead k m x) (omega (arith, placed.number, d)) placed.least) ∙ told) in
+              let one : suc i ≡ i + 1 = omega arith in
+              run_with (linked_lists k v' p q) (linked_part k p q) (refl, refl) refl
+              (subst (λ (j : ℕ). Prefix k (bits_of bytes) n done gone w (linked_lists k v' p q) (linked_part k p q) j m' x') one
+              (subst (λ (j : ℕ). Prefix k (bits_of bytes) n done gone w (linked_lists k v' p q) (linked_part k p q) (suc i) (kept k (q.done - j)) x') d more))

@@ -6,7 +6,6 @@ pub mod Beginnings
 pub mod Strands
 pub mod Pieces
 pub mod Marks
-pub mod Refusals
 pub mod Child
 pub mod Children
 pub mod Calls

@@ -1,9 +1,9 @@
 -- A record as a whole: the job count, the tree, and the bits left over.
 use Prim.Native.Nat.{ℕ, suc, ◌+◌, ◌-◌, ◌*◌, ◌^◌, ◌≤◌, ◌<◌}
-use mathlib.Core.Path.{◌≡◌, sym, ap, ap₂, subst, ◌∙◌}
+use mathlib.Core.Path.{◌≡◌, refl, sym, ap, ap₂, subst, ◌∙◌}
 use mathlib.Core.List.{List, ◌++◌, Memᴰ}
 use mathlib.Core.Bool.{true, false}
-use Rattle.std.specs.Prelude.{Some}
+use Rattle.std.specs.Prelude.{None, Some}
 use native.Mathlib.Omega.{arith}
 use lib.ListN.{length, get_or, take, drop, replicate, length-append, length-replicate, get_or-replicate}
 use lib.Seq.{drop_at}
@@ -23,7 +23,7 @@ use Rattle.record.proofs.Tests.{fills_zeros, zeros_fill}
 use Rattle.record.proofs.Records.{layout_filled}
 use Rattle.record.proofs.Theorems.{decode_record, decode_none, layout_length}
 use Rattle.reader.specs.Fields.{At, FieldAt}
-use Rattle.reader.specs.Parts.{Lists, walk, place, Ready, Free, Found, Plain, of_tree}
+use Rattle.reader.specs.Parts.{Lists, walk, place, Ready, Free, Placed, Found, Plain, of_tree}
 use Rattle.reader.specs.Whole.{Blank, Holds, WholeRead}
 use Rattle.poset.specs.Areas.{padded}
 use Rattle.reader.specs.declared.parts.Part.{Part}
@@ -72,21 +72,20 @@ NoRecord bytes = (n : ℕ) (t : Tree) (hours : List ℕ) → IsRecord bytes n t 
 
 -- the readers are given lists of zeros
 pub ready_first
-    : (bytes : List ℕ) (m : ℕ) → length bytes ≤ most_record_bytes → FieldAt (bits_of bytes) 0 7 m → (forward next hours : List ℕ) → Blank forward next hours
-    → Ready bytes (m + 1) 0 0 (replicate 128 0) next hours
-ready_first bytes m short count forward next hours blank =
+    : (bytes : List ℕ) (m : ℕ) → length bytes ≤ most_record_bytes → FieldAt (bits_of bytes) 0 7 m → (w : Lists) → Blank w → Ready bytes (m + 1) 0 0 w
+ready_first bytes m short count w blank =
     let small : m < 128 = count.small in
     record {
       short = short;
       few = omega arith;
       named = omega arith;
       opened = omega arith;
-      marks = length-replicate {A = ℕ} 128 0;
+      marks = ap length blank.seen_is ∙ length-replicate {A = ℕ} 128 0;
       links = ap length blank.next_is ∙ length-replicate {A = ℕ} 128 0;
       entries = ap length blank.hours_is ∙ length-replicate {A = ℕ} 128 0;
       low =
           λ x.
-          all_below_lem (2 ^ hours_bits) x hours
+          all_below_lem (2 ^ hours_bits) x w.hours
           (λ i. omega (arith, ap (λ (l : List ℕ). get_or l i 0) blank.hours_is, zeros_at 128 i));
     }
 
@@ -98,14 +97,8 @@ none_empty bytes e n t hours r = omega (arith, (record_spelt bytes n t hours r).
 pub none_long : (bytes : List ℕ) → most_record_bytes < length bytes → NoRecord bytes
 none_long bytes l n t hours r = omega (arith, ap length r.spelt, (layout_length n hours t r.most r.spans).2)
 
--- the lists before any job is named
-abbrev begun : List ℕ → List ℕ → List ℕ → Lists
-begun forward next hours = record { seen = replicate 128 0; forward = forward; next = next; hours = hours }
-
--- a count, and the tree after it, if one was read
-module _ (bytes : List ℕ) (m : ℕ) (count : FieldAt (bits_of bytes) 0 7 m) (forward next entries : List ℕ)
-    (blank : Blank forward next entries) (v : Lists) (p : Part)
-    (r : Found of_tree Plain (bits_of bytes) (m + 1) 0 0 (begun forward next entries) v p) where
+-- a count, and the tree after it, if one was read, over lists of zeros
+module _ (bytes : List ℕ) (m : ℕ) (count : FieldAt (bits_of bytes) 0 7 m) (w : Lists) (blank : Blank w) (v : Lists) where
   few : m + 1 ≤ 128
   few = let small : m < 128 = count.small in omega arith
 
@@ -119,103 +112,114 @@ module _ (bytes : List ℕ) (m : ℕ) (count : FieldAt (bits_of bytes) 0 7 m) (f
         at_same (bits 7 (n - 1)) (bits 7 m) (length_bits 7 (n - 1) ∙ sym (length_bits 7 m)) spelt.count_at count.stands in
         omega (arith, bits_injective 7 (n - 1) m (omega (arith, q.most)) count.small same, q.least)
 
-    free : Free (m + 1) 0 0 (replicate 128 0) (of_tree t)
+    free : Free (m + 1) 0 0 w.seen (of_tree t)
     free = record {
       inside = λ u i. omega (arith, same_count, leaves_below n t q.spans u i);
-      unseen = λ u i. get_or-replicate 128 u 0 0 (omega (arith, q.most, leaves_below n t q.spans u i));
+      unseen = λ u i.
+          ap (λ (l : List ℕ). get_or l u 0) blank.seen_is
+          ∙ get_or-replicate 128 u 0 0 (omega (arith, q.most, leaves_below n t q.spans u i));
       room = omega (arith, same_count, length_leaves n t q.spans);
       fewer = omega (arith, same_count, length_leaves n t q.spans, groups_lt t);
     }
 
-    -- so what was read is the record's tree
-    read_same : (ok : p.ok ≡ true) → (r.some ok).0 ≡ t
-    read_same ok =
-        let (s, _, free_s, placed) = r.some ok in
-        one_tree v.hours hours placed.low q.small s t (free_small few free_s) (free_small few free) placed.stands spelt.tree_at
+  pub none_tree : Found of_tree Plain (bits_of bytes) (m + 1) 0 0 w v None → NoRecord bytes
+  none_tree r n t hours q =
+      r.none refl t (canon t q.plain, (spans_holds n t q.spans).0) (free n t hours q) hours q.small (spelt n t hours q).tree_at
 
-  pub none_tree : p.ok ≡ false → NoRecord bytes
-  none_tree bad n t hours q =
-      r.none bad t (canon t q.plain, (spans_holds n t q.spans).0) (free n t hours q) hours q.small (spelt n t hours q).tree_at
+  module _ (p : Part) (r : Found of_tree Plain (bits_of bytes) (m + 1) 0 0 w v (Some p)) where
+    -- the tree that was read
+    found : (t : Tree) × Plain t × Free (m + 1) 0 0 w.seen (of_tree t) × Placed (bits_of bytes) 0 0 w v p (of_tree t)
+    found = r.some p refl
 
-  pub none_count : p.ok ≡ true → (p.done ≡ m + 1 → ⊥) → NoRecord bytes
-  none_count ok fewer n t hours q =
-      let same : length (leaves (r.some ok).0) ≡ length (leaves t) = ap (λ (s : Tree). length (leaves s)) (read_same n t hours q ok) in
-      fewer (omega (arith, (r.some ok).3.number, length_leaves n t q.spans, same_count n t hours q))
+    -- is the record's, if there is one
+    read_same : (n : ℕ) (t : Tree) (hours : List ℕ) → IsRecord bytes n t hours → found.0 ≡ t
+    read_same n t hours q =
+        let (s, _, free_s, placed) = found in
+        one_tree v.hours hours placed.low q.small s t (free_small few free_s) (free_small few (free n t hours q)) placed.stands
+        (spelt n t hours q).tree_at
 
-  pub none_filled : p.ok ≡ true → fills (drop (place p.done p.groups) (bits_of bytes)) ≡ false → NoRecord bytes
-  none_filled ok bad n t hours q =
-      let same : length (tree_bits v.hours (r.some ok).0) ≡ length (tree_bits v.hours t) =
-      ap (λ (s : Tree). length (tree_bits v.hours s)) (read_same n t hours q ok) in
-      let end : place p.done p.groups ≡ 7 + length (tree_bits hours t) =
-      omega (arith, (r.some ok).3.end, length_tree_bits v.hours t, length_tree_bits hours t) in
-      clash (ap (λ (i : ℕ). fills (drop i (bits_of bytes))) end ∙ (spelt n t hours q).rest) bad
+    pub none_count : (p.done ≡ m + 1 → ⊥) → NoRecord bytes
+    none_count fewer n t hours q =
+        let same : length (leaves found.0) ≡ length (leaves t) = ap (λ (s : Tree). length (leaves s)) (read_same n t hours q) in
+        fewer (omega (arith, found.3.number, length_leaves n t q.spans, same_count n t hours q))
 
-  pub read_whole : AllBelow 256 bytes → (ok : p.ok ≡ true) → p.done ≡ m + 1 → fills (drop (place p.done p.groups) (bits_of bytes)) ≡ true
-      → IsRecord bytes (m + 1) (r.some ok).0 (take (m + 1) v.hours)
-  read_whole small ok all filled =
-      let (t, plain, free_t, placed) = r.some ok in
-      let rest : List ℕ = drop (place p.done p.groups) (bits_of bytes) in
-      let (spare, zeros) = zeros_fill rest filled in
-      let head : List ℕ = bits 7 m in
-      let size : 7 ≡ 0 + length head = omega (arith, length_bits 7 m) in
-      let hours : List ℕ = take (m + 1) v.hours in
-      let body : List ℕ = tree_bits hours t in
-      let spelt : tree_bits v.hours t ≡ body = hours_spelt t few blank.hours_is free_t placed in
-      let both : At (bits_of bytes) 0 (head ++ body) =
-      at_join head body count.stands
-      (subst (λ (i : ℕ). At (bits_of bytes) i body) size (subst (At (bits_of bytes) 7) spelt placed.stands)) in
-      let end : 0 + length (head ++ body) ≡ place p.done p.groups =
-      omega (arith, length-append head body, placed.end, ap length spelt) in
-      let less : m ≡ m + 1 - 1 = omega arith in
-      let as_filled : Filled (bits 7 (m + 1 - 1) ++ body) bytes = record {
-        fill = length rest;
-        few = spare;
-        same =
-            both.these
-            ∙ ap₂ (λ (a b : List ℕ). (a ++ body) ++ b) (ap (bits 7) less) (ap (λ (i : ℕ). drop i (bits_of bytes)) end ∙ zeros);
-        small = small;
-      } in
-      record {
-        least = omega arith;
-        most = few;
-        spans = length_spans (m + 1) t plain.1 free_t.inside (omega (arith, placed.number));
-        plain = canon_canonical t plain.0;
-        each = hours_each t few blank.hours_is free_t placed;
-        small = below_take (m + 1) v.hours placed.low;
-        spelt = filled_unique (layout_filled (m + 1) hours t) as_filled;
-      }
+    pub none_filled : fills (drop (place p.done p.groups) (bits_of bytes)) ≡ false → NoRecord bytes
+    none_filled bad n t hours q =
+        let same : length (tree_bits v.hours found.0) ≡ length (tree_bits v.hours t) =
+        ap (λ (s : Tree). length (tree_bits v.hours s)) (read_same n t hours q) in
+        let end : place p.done p.groups ≡ 7 + length (tree_bits hours t) =
+        omega (arith, found.3.end, length_tree_bits v.hours t, length_tree_bits hours t) in
+        clash (ap (λ (i : ℕ). fills (drop i (bits_of bytes))) end ∙ (spelt n t hours q).rest) bad
 
-  pub tree_within : p.ok ≡ true → place p.done p.groups ≤ 8 * length bytes
-  tree_within ok = omega (arith, (r.some ok).3.end, (r.some ok).3.stands.within, length_bits_of bytes)
+    read_whole : AllBelow 256 bytes → p.done ≡ m + 1 → fills (drop (place p.done p.groups) (bits_of bytes)) ≡ true
+        → IsRecord bytes (m + 1) found.0 (take (m + 1) v.hours)
+    read_whole small all filled =
+        let (t, plain, free_t, placed) = found in
+        let rest : List ℕ = drop (place p.done p.groups) (bits_of bytes) in
+        let (spare, zeros) = zeros_fill rest filled in
+        let head : List ℕ = bits 7 m in
+        let size : 7 ≡ 0 + length head = omega (arith, length_bits 7 m) in
+        let hours : List ℕ = take (m + 1) v.hours in
+        let body : List ℕ = tree_bits hours t in
+        let spelt : tree_bits v.hours t ≡ body = hours_spelt t few blank.hours_is free_t placed in
+        let both : At (bits_of bytes) 0 (head ++ body) =
+        at_join head body count.stands
+        (subst (λ (i : ℕ). At (bits_of bytes) i body) size (subst (At (bits_of bytes) 7) spelt placed.stands)) in
+        let end : 0 + length (head ++ body) ≡ place p.done p.groups =
+        omega (arith, length-append head body, placed.end, ap length spelt) in
+        let less : m ≡ m + 1 - 1 = omega arith in
+        let as_filled : Filled (bits 7 (m + 1 - 1) ++ body) bytes = record {
+          fill = length rest;
+          few = spare;
+          same =
+              both.these
+              ∙ ap₂ (λ (a b : List ℕ). (a ++ body) ++ b) (ap (bits 7) less) (ap (λ (i : ℕ). drop i (bits_of bytes)) end ∙ zeros);
+          small = small;
+        } in
+        record {
+          least = omega arith;
+          most = few;
+          spans = length_spans (m + 1) t plain.1 free_t.inside (omega (arith, placed.number));
+          plain = canon_canonical t plain.0;
+          each = hours_each t few blank.hours_is free_t placed;
+          small = below_take (m + 1) v.hours placed.low;
+          spelt = filled_unique (layout_filled (m + 1) hours t) as_filled;
+        }
 
-  -- what was read is the record
-  pub whole_some : AllBelow 256 bytes → p.ok ≡ true → p.done ≡ m + 1 → fills (drop (place p.done p.groups) (bits_of bytes)) ≡ true
-      → WholeRead bytes v.forward v.next v.hours p
-  whole_some small ok all filled =
-      let (t, _, free_t, placed) = r.some ok in
-      let Told : ℕ → Type 0 = λ n.
-      (decode bytes ≡ Some (n, t, take n v.hours)) × (n ≤ 128) × (walk v.next n p.first ≡ reversed t)
-      × AllBelow 128 (walk v.next n p.first) × (v.hours ≡ padded (take n v.hours)) in
-      let told : Told (m + 1) = (
-        (decode_record bytes (m + 1) t (take (m + 1) v.hours) small).1 (read_whole small ok all filled),
-        few,
-        walk_reversed t few all free_t placed,
-        walk_below t few all free_t placed,
-        hours_padded t few blank.hours_is free_t placed,
-      ) in
-      let (decoded, most, back, inside, times) = subst Told (sym all) told in
-      let holds : Holds bytes v.forward v.next v.hours p t = record {
-        decoded = decoded;
-        few = most;
-        inner = omega (arith, placed.groups);
-        forth = forward_leaves t few all free_t placed blank.forward_is;
-        back = back;
-        inside = inside;
-        times = times;
-      } in
-      record { some = λ _. (t, holds); none = λ bad. absurd (clash ok bad) }
+    pub tree_within : place p.done p.groups ≤ 8 * length bytes
+    tree_within = omega (arith, found.3.end, found.3.stands.within, length_bits_of bytes)
 
-pub whole_none
-    : (bytes forward next hours : List ℕ) (p : Part) → AllBelow 256 bytes → NoRecord bytes → p.ok ≡ false → WholeRead bytes forward next hours p
-whole_none bytes forward next hours p small other bad =
-    record { some = λ ok. absurd (clash ok bad); none = λ _. (decode_none bytes small).1 other }
+    -- what was read is the record
+    pub whole_some : AllBelow 256 bytes → p.done ≡ m + 1 → fills (drop (place p.done p.groups) (bits_of bytes)) ≡ true
+        → WholeRead bytes v (Some p)
+    whole_some small all filled =
+        let (t, _, free_t, placed) = found in
+        let Told : ℕ → Type 0 = λ n.
+        (decode bytes ≡ Some (n, t, take n v.hours)) × (n ≤ 128) × (walk v.next n p.first ≡ reversed t)
+        × AllBelow 128 (walk v.next n p.first) × (v.hours ≡ padded (take n v.hours)) in
+        let told : Told (m + 1) = (
+          (decode_record bytes (m + 1) t (take (m + 1) v.hours) small).1 (read_whole small all filled),
+          few,
+          walk_reversed t few all free_t placed,
+          walk_below t few all free_t placed,
+          hours_padded t few blank.hours_is free_t placed,
+        ) in
+        let (decoded, most, back, inside, times) = subst Told (sym all) told in
+        let holds : Holds bytes v p t = record {
+          decoded = decoded;
+          few = most;
+          inner = omega (arith, placed.groups);
+          forth = forward_leaves t few all free_t placed blank.forward_is;
+          back = back;
+          inside = inside;
+          times = times;
+        } in
+        record {
+          some = λ p' e.
+              let one : p ≡ p' = cc in
+              (t, subst (λ (u : Part). Holds bytes v u t) one holds);
+          none = λ e. absurd (cc);
+        }
+
+pub whole_none : (bytes : List ℕ) (v : Lists) → AllBelow 256 bytes → NoRecord bytes → WholeRead bytes v None
+whole_none bytes v small other = record { some = λ p e. absurd (cc); none = λ _. (decode_none bytes small).1 other }

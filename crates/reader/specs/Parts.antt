@@ -1,6 +1,6 @@
 -- What the readers of a record's parts owe: of a tree, and of the children of a group.
 -- For inner contracts alone: who reads the promises of read_record, read_nodes and order_of need not believe it, but specs/Answer.antt.
-use Rattle.std.specs.Prelude.{ℕ, zero, suc, ◌+◌, ◌*◌, ◌^◌, ◌≤◌, ◌<◌, min, ◌≡◌, true, false, length, get_or, set}
+use Rattle.std.specs.Prelude.{ℕ, zero, suc, ◌+◌, ◌*◌, ◌^◌, ◌≤◌, ◌<◌, min, ◌≡◌, Bool, true, false, Option, None, Some, length, get_or, set}
 use mathlib.Core.List.{List, [], ◌∷◌, Memᴰ}
 use Rattle.std.proofs.lemmas.List.Edits.{sets}
 use Rattle.poset.specs.Tree.{Kind, series, parallel, Tree, Forest, alternates}
@@ -10,6 +10,7 @@ use Rattle.record.specs.Bits.{AllBelow}
 use Rattle.record.specs.Layout.{hours_bits, leaf_bits, most_record_bytes, more_children, hours_of, tree_bits, forest_bits}
 use Rattle.reader.specs.Fields.{At}
 use Rattle.reader.specs.declared.parts.Part.{Part}
+pub use Rattle.reader.specs.declared.parts.Lists.{Lists}
 
 -- a tree, or the children of a group, as a reader tells it; spelt by the hours of the jobs
 pub record Piece : Type 0 where
@@ -32,13 +33,6 @@ of_forest k f =
       inner = forest_groups f;
     }
 
--- the work lists: the seen marks, the forward sequence, and for each job the one after it in the reverse sequence and its hours
-pub record Lists : Type 0 where
-  pub seen : List ℕ
-  pub forward : List ℕ
-  pub next : List ℕ
-  pub hours : List ℕ
-
 abbrev pub marked : List ℕ → List ℕ → List ℕ
 marked seen [] = seen
 marked seen (j ∷ js) = marked (set seen j 1) js
@@ -58,15 +52,15 @@ abbrev pub place : ℕ → ℕ → ℕ
 place done gone = 7 + leaf_bits * done + 9 * gone
 
 -- what a reader is given: at most as many bytes and jobs as a record has, fewer groups than jobs, and lists for 128 jobs
-pub record Ready (bytes : List ℕ) (n done gone : ℕ) (seen next hours : List ℕ) : Type 0 where
+pub record Ready (bytes : List ℕ) (n done gone : ℕ) (w : Lists) : Type 0 where
   pub short : length bytes ≤ most_record_bytes
   pub few : n ≤ 128
   pub named : done ≤ n
   pub opened : gone < n
-  pub marks : length seen ≡ 128
-  pub links : length next ≡ 128
-  pub entries : length hours ≡ 128
-  pub low : AllBelow (2 ^ hours_bits) hours
+  pub marks : length w.seen ≡ 128
+  pub links : length w.next ≡ 128
+  pub entries : length w.hours ≡ 128
+  pub low : AllBelow (2 ^ hours_bits) w.hours
 
 -- the jobs are below n, none is marked; with those named so far they are at most n, and the groups fewer than n
 pub record Free (n done gone : ℕ) (seen : List ℕ) (x : Piece) : Type 0 where
@@ -92,9 +86,9 @@ pub record Placed (bs : List ℕ) (done gone : ℕ) (w v : Lists) (p : Part) (x 
   pub entries : length v.hours ≡ length w.hours
 
 -- a reader found the one x that may stand there and does, or there is none, whatever the hours
-pub record Found {X : Type 0} (piece : X → Piece) (May : X → Type 0) (bs : List ℕ) (n done gone : ℕ) (w v : Lists) (p : Part) : Type 0 where
-  pub some : p.ok ≡ true → (x : X) × May x × Free n done gone w.seen (piece x) × Placed bs done gone w v p (piece x)
-  pub none : p.ok ≡ false → (x : X) → May x → Free n done gone w.seen (piece x)
+pub record Found {X : Type 0} (piece : X → Piece) (May : X → Type 0) (bs : List ℕ) (n done gone : ℕ) (w v : Lists) (o : Option Part) : Type 0 where
+  pub some : (p : Part) → o ≡ Some p → (x : X) × May x × Free n done gone w.seen (piece x) × Placed bs done gone w v p (piece x)
+  pub none : o ≡ None → (x : X) → May x → Free n done gone w.seen (piece x)
       → (hours : List ℕ) → AllBelow (2 ^ hours_bits) hours → At bs (place done gone) ((piece x).spelt hours) → ⊥
 
 -- any tree in canonical form, and one that may stand in a group of kind k
@@ -108,21 +102,18 @@ PlainUnder k t = (alternates k t ≡ true) × Plain t
 abbrev pub PlainChildren : Kind → ℕ → Forest → Type 0
 PlainChildren k c f = (more_children f ≡ suc c) × CanonForest k f × OnceForest f
 
--- nothing read yet after so many leaves and groups; and no part of a record
-
-abbrev pub unread_part : ℕ → ℕ → Part
-unread_part done gone = record { ok = false; done = done; groups = gone; least = 0; first = 0; last = 0 }
-
-abbrev pub refused_part : Part
-refused_part = unread_part 0 0
-
 -- one leaf, whose job has the hours x
-pub record LeafRead (n job x done gone : ℕ) (seen forward hours seen' forward' hours' : List ℕ) (p : Part) : Type 0 where
-  pub some : p.ok ≡ true
-      → (job < n) × (get_or seen job 0 ≡ 0) × (done < n) × (seen' ≡ set seen job 1) × (forward' ≡ set forward done job)
-      × (hours' ≡ set hours job x)
-      × (p ≡ record { ok = true; done = done + 1; groups = gone; least = job; first = job; last = job })
-  pub none : p.ok ≡ false → job < n → get_or seen job 0 ≡ 0 → done < n → ⊥
+pub record LeafRead (n job x done gone : ℕ) (w v : Lists) (o : Option Part) : Type 0 where
+  pub some : (p : Part) → o ≡ Some p
+      → (job < n) × (get_or w.seen job 0 ≡ 0) × (done < n)
+      × (v ≡ record { seen = set w.seen job 1; forward = set w.forward done job; next = w.next; hours = set w.hours job x })
+      × (p ≡ record { done = done + 1; groups = gone; least = job; first = job; last = job })
+  pub none : o ≡ None → job < n → get_or w.seen job 0 ≡ 0 → done < n → ⊥
+
+-- the kind that a reader of series groups reads, and one of the others
+abbrev pub kind_by : Bool → Kind
+kind_by true = series
+kind_by false = parallel
 
 -- the one of two parts that is ahead in the reverse sequence, and the one behind: the earlier child is ahead in a chain
 
@@ -134,44 +125,29 @@ abbrev pub behind : Kind → Part → Part → Part
 behind series p q = q
 behind parallel p q = p
 
--- the children p of a group and the next child q; where p is none yet, the child alone
+-- the children p of a group and the next child q
 
-abbrev pub longer : Kind → Part → Part → Part
-longer k p q =
-    elim p.ok [
-      | false ↦ q
-      | true ↦
-          record {
-            ok = true;
-            done = q.done;
-            groups = q.groups;
-            least = min p.least q.least;
-            first = (front k p q).first;
-            last = (behind k p q).last;
-          }
-    ]
+abbrev pub linked_part : Kind → Part → Part → Part
+linked_part k p q =
+    record {
+      done = q.done;
+      groups = q.groups;
+      least = min p.least q.least;
+      first = (front k p q).first;
+      last = (behind k p q).last;
+    }
 
-abbrev pub longer_next : Kind → Part → Part → List ℕ → List ℕ
-longer_next k p q next = elim p.ok [ false ↦ next | true ↦ set next (front k p q).last (behind k p q).first ]
+abbrev pub linked_lists : Kind → Lists → Part → Part → Lists
+linked_lists k v p q =
+    record { seen = v.seen; forward = v.forward; next = set v.next (front k p q).last (behind k p q).first; hours = v.hours }
 
 -- any tree, a child of a group of kind k, and c + 1 children of one
 
-abbrev pub TreeRead : List ℕ → (n done gone : ℕ) (seen forward next hours seen' forward' next' hours' : List ℕ) → Part → Type 0
-TreeRead bs n done gone seen forward next hours seen' forward' next' hours' =
-    Found of_tree Plain bs n done gone
-    (record { seen = seen; forward = forward; next = next; hours = hours })
-    (record { seen = seen'; forward = forward'; next = next'; hours = hours' })
+abbrev pub TreeRead : List ℕ → (n done gone : ℕ) → Lists → Lists → Option Part → Type 0
+TreeRead bs n done gone w v o = Found of_tree Plain bs n done gone w v o
 
-abbrev pub ChildRead
-    : Kind → List ℕ → (n done gone : ℕ) (seen forward next hours seen' forward' next' hours' : List ℕ) → Part → Type 0
-ChildRead k bs n done gone seen forward next hours seen' forward' next' hours' =
-    Found of_tree (PlainUnder k) bs n done gone
-    (record { seen = seen; forward = forward; next = next; hours = hours })
-    (record { seen = seen'; forward = forward'; next = next'; hours = hours' })
+abbrev pub ChildRead : Kind → List ℕ → (n done gone : ℕ) → Lists → Lists → Option Part → Type 0
+ChildRead k bs n done gone w v o = Found of_tree (PlainUnder k) bs n done gone w v o
 
-abbrev pub ChildrenRead
-    : Kind → ℕ → List ℕ → (n done gone : ℕ) (seen forward next hours seen' forward' next' hours' : List ℕ) → Part → Type 0
-ChildrenRead k c bs n done gone seen forward next hours seen' forward' next' hours' =
-    Found (of_forest k) (PlainChildren k c) bs n done gone
-    (record { seen = seen; forward = forward; next = next; hours = hours })
-    (record { seen = seen'; forward = forward'; next = next'; hours = hours' })
+abbrev pub ChildrenRead : Kind → ℕ → List ℕ → (n done gone : ℕ) → Lists → Lists → Option Part → Type 0
+ChildrenRead k c bs n done gone w v o = Found (of_forest k) (PlainChildren k c) bs n done gone w v o

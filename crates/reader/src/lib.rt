@@ -19,7 +19,7 @@ ghost use Rattle.poset.specs.Areas.{padded};
 use groups::{place, tree};
 use listing::list_nodes;
 use nodes::{field, filled};
-use parts::{Part, refused};
+use parts::{Lists, Part};
 use record::{NODE_ROOM, RECORD_ROOM};
 
 // The job count, the number of groups, the sequences and the hours of each job, whose entries from the count on are 0.
@@ -46,57 +46,43 @@ fn in_turn(next: &[u8; 128], first: usize, count: usize) -> [u8; 128]
     jobs
 }
 
-// Whether the bytes are a record, as the part that its tree is; then the lists, lent as zeros, are filled: the forward sequence, the next
-// jobs of the reverse one, the hours.
-fn read_whole(
-    bytes: &[u8],
-    forward: &mut [u8; 128],
-    next: &mut [u8; 128],
-    hours: &mut [u16; 128],
-) -> Part
-    requires { Blank forward.old next.old hours.old }
-    ensures { WholeRead bytes.now forward.new next.new hours.new result }
+// The part that the tree of a record is, if the bytes are one; then the lists, lent as zeros, are filled.
+fn read_whole(bytes: &[u8], lists: &mut Lists) -> Option<Part>
+    requires { Blank lists.old }
+    ensures { WholeRead bytes.now lists.new result }
 {
-    if bytes.len() == 0 {
-        return refused();
-    }
-    if bytes.len() > RECORD_ROOM {
-        return refused();
+    if bytes.len() == 0 || bytes.len() > RECORD_ROOM {
+        return None;
     }
     let count = field(bytes, 0, 7) + 1;
-    let mut seen = [0u8; 128];
-    let part = tree(bytes, count as u8, &mut seen, forward, next, hours);
-    if !part.ok {
-        return part;
-    }
-    if part.done as usize != count {
-        return refused();
+    let part = tree(bytes, count as u8, lists)?;
+    if usize::from(part.done) != count {
+        return None;
     }
     if !filled(bytes, place(part.done, part.groups)) {
-        return refused();
+        return None;
     }
-    part
+    Some(part)
 }
 
 // Reads a record, if the bytes are one.
 pub fn read_record(bytes: &[u8]) -> Option<Reading>
     ensures { result ≡ option_map reading (decode bytes.now) }
 {
-    let mut forward = [0u8; 128];
-    let mut next = [0u8; 128];
-    let mut hours = [0u16; 128];
-    let part = read_whole(bytes, &mut forward, &mut next, &mut hours);
-    if !part.ok {
-        return None;
-    }
-    let count = part.done as usize;
-    let reverse = in_turn(&next, part.first as usize, count);
+    let mut lists = Lists::new();
+    let part = read_whole(bytes, &mut lists)?;
+    let count = usize::from(part.done);
+    let groups = usize::from(part.groups);
+    let first = usize::from(part.first);
+    let reverse = in_turn(&lists.next, first, count);
+    let forward = lists.forward;
+    let hours = lists.hours;
     Some(Reading {
-        count: count,
-        groups: part.groups as usize,
-        forward: forward,
-        reverse: reverse,
-        hours: hours,
+        count,
+        groups,
+        forward,
+        reverse,
+        hours,
     })
 }
 
@@ -114,20 +100,17 @@ pub struct NodeList {
 pub fn read_nodes(bytes: &[u8]) -> Option<NodeList>
     ensures { result ≡ option_map nodes (decode bytes.now) }
 {
-    let mut forward = [0u8; 128];
-    let mut next = [0u8; 128];
-    let mut hours = [0u16; 128];
-    let part = read_whole(bytes, &mut forward, &mut next, &mut hours);
-    if !part.ok {
-        return None;
-    }
-    let jobs = part.done as usize;
-    let count = jobs + part.groups as usize;
+    let mut lists = Lists::new();
+    let part = read_whole(bytes, &mut lists)?;
+    let jobs = usize::from(part.done);
+    let groups = usize::from(part.groups);
+    let count = jobs + groups;
     let tokens = list_nodes(bytes, count);
+    let hours = lists.hours;
     Some(NodeList {
-        jobs: jobs,
-        count: count,
-        tokens: tokens,
-        hours: hours,
+        jobs,
+        count,
+        tokens,
+        hours,
     })
 }

@@ -5,13 +5,12 @@ ghost use Rattle.record.specs.Layout.{most_record_bytes};
 ghost use Rattle.record.specs.Decode.{fills};
 ghost use Rattle.reader.specs.Fields.{FieldAt, LeafAt, NodeAt};
 
-// What a node begins with. tag: 0 a leaf, 1 a series group, 2 a parallel group, 3 none: the bits end, or a group has one
-// child. value: the job, or the children minus 1. hours: the job's.
+// What a node begins with: a leaf's job and its hours, or how many children a group has, minus 1.
 #[derive(Clone, Copy)]
-pub struct Node {
-    pub tag: u8,
-    pub value: u8,
-    pub hours: u16,
+pub enum Node {
+    Leaf(u8, u16),
+    Chain(u8),
+    Side(u8),
 }
 
 // The number in two bytes.
@@ -35,10 +34,9 @@ pub fn field(bytes: &[u8], at: usize, width: usize) -> usize
     (pair(bytes, i) >> (16 - end)) % (1usize << width)
 }
 
-// The number in as many bits from `at` on as a leaf has: four bytes hold them, or the last three. Where the bits end, that of a group
-// with one child. The second pair of the four is read first: with the pair that the three have too ahead of it, the compiler
-// would not load the four at once.
-fn leaf_at(bytes: &[u8], at: usize) -> usize
+// The number in as many bits from `at` on as a leaf has, if there are so many: four bytes hold them, or the last three. The second pair
+// of the four is read first: with the pair that the three have too ahead of it, the compiler would not load the four at once.
+fn leaf_at(bytes: &[u8], at: usize) -> Option<usize>
     requires { (at ≤ 8 * most_record_bytes) × (length bytes.now ≤ most_record_bytes) }
     ensures { LeafAt (bits_of bytes.now) at result }
 {
@@ -47,46 +45,35 @@ fn leaf_at(bytes: &[u8], at: usize) -> usize
     if i + 4 <= bytes.len() {
         let low = pair(bytes, i + 2);
         let four = pair(bytes, i) * 65536 + low;
-        return (four >> (32 - end)) % (1usize << record::LEAF_BITS);
+        return Some((four >> (32 - end)) % (1usize << record::LEAF_BITS));
     }
     if 8 * bytes.len() < at + record::LEAF_BITS {
-        return 1usize << (record::LEAF_BITS - 1);
+        return None;
     }
     let three = pair(bytes, i) * 256 + usize::from(bytes[i + 2]);
-    (three >> (24 - end)) % (1usize << record::LEAF_BITS)
+    Some((three >> (24 - end)) % (1usize << record::LEAF_BITS))
 }
 
-// The node at `at`. No tree has fewer bits than a leaf.
-pub fn node_at(bytes: &[u8], at: usize) -> Node
+// The node at `at`, if there is one. No tree has fewer bits than a leaf, and no group one child.
+pub fn node_at(bytes: &[u8], at: usize) -> Option<Node>
     requires { (at ≤ 8 * most_record_bytes) × (length bytes.now ≤ most_record_bytes) }
     ensures { NodeAt (bits_of bytes.now) at result }
 {
-    let x = leaf_at(bytes, at);
+    let x = leaf_at(bytes, at)?;
     let first = x >> record::HOURS_BITS;
     if first < 128 {
         let job = first as u8;
         let hours = (x % (1usize << record::HOURS_BITS)) as u16;
-        return Node {
-            tag: 0,
-            value: job,
-            hours: hours,
-        };
+        return Some(Node::Leaf(job, hours));
     }
     let more = (x >> (record::HOURS_BITS - 1)) % 128;
     if more == 0 {
-        return Node {
-            tag: 3,
-            value: 0,
-            hours: 0,
-        };
+        return None;
     }
-    let tag = (first / 64 - 1) as u8;
-    let value = more as u8;
-    Node {
-        tag: tag,
-        value: value,
-        hours: 0,
+    if first < 192 {
+        return Some(Node::Chain(more as u8));
     }
+    Some(Node::Side(more as u8))
 }
 
 // Whether the bits from `at` on fill the last byte with zeros, and no byte follows.

@@ -1,15 +1,13 @@
 //! Parts of a record: what is read of a tree or of the children of a group, and the work lists beside it.
-ghost use Rattle.std.specs.Prelude.{◌≡◌, true, ◌≤◌, ◌<◌};
-ghost use Rattle.poset.specs.Tree.{series, parallel, outranks};
-ghost use Rattle.reader.specs.Parts.{unread_part, refused_part, LeafRead, longer, longer_next};
+ghost use Rattle.std.specs.Prelude.{◌≡◌, ◌≤◌, ◌<◌};
+ghost use Rattle.poset.specs.Tree.{outranks};
+ghost use Rattle.reader.specs.Parts.{kind_by, front, LeafRead, linked_part, linked_lists};
+ghost use Rattle.reader.specs.Whole.{Blank};
 
-use crate::nodes::Node;
-
-// ok: whether the part is one of a record. done, groups: the leaves and the groups of the record up to its end. least: its smallest
-// job. first, last: the ends of its part of the reverse sequence.
+// Of a part of a record: the leaves and the groups of the record up to its end, its smallest job, and the ends of its part of the reverse
+// sequence.
 #[derive(Clone, Copy)]
 pub struct Part {
-    pub ok: bool,
     pub done: u8,
     pub groups: u8,
     pub least: u8,
@@ -17,62 +15,72 @@ pub struct Part {
     pub last: u8,
 }
 
-// Nothing read yet after so many leaves and groups.
-pub fn unread(done: u8, groups: u8) -> Part
-    ensures { result ≡ unread_part done groups }
-{
-    Part {
-        ok: false,
-        done: done,
-        groups: groups,
-        least: 0,
-        first: 0,
-        last: 0,
-    }
+// What is filled while a tree is read: a mark for each job that was named, the forward sequence, and for each job the one after it in the
+// reverse sequence, and its hours.
+#[derive(Drop)]
+pub struct Lists {
+    pub seen: [u8; 128],
+    pub forward: [u8; 128],
+    pub next: [u8; 128],
+    pub hours: [u16; 128],
 }
 
-pub fn refused() -> Part
-    ensures { result ≡ refused_part }
-{
-    unread(0, 0)
-}
+impl Lists {
+    pub fn new() -> Lists
+        ensures { Blank result }
+    {
+        Lists {
+            seen: [0; 128],
+            forward: [0; 128],
+            next: [0; 128],
+            hours: [0; 128],
+        }
+    }
 
-// A leaf after `done` others: its job is below the count, and named for the first time.
-pub fn leaf(
-    count: u8,
-    node: Node,
-    done: u8,
-    groups: u8,
-    seen: &mut [u8; 128],
-    forward: &mut [u8; 128],
-    hours: &mut [u16; 128],
-) -> Part
-    requires { count ≤ 128 }
-    ensures { LeafRead count node.value node.hours done groups seen.old forward.old hours.old
-        seen.new forward.new hours.new result }
-{
-    let job = node.value;
-    if job >= count {
-        return refused();
+    // A leaf after `done` others: its job is below the count, and named for the first time.
+    pub fn leaf(&mut self, count: u8, job: u8, hours: u16, done: u8, groups: u8) -> Option<Part>
+        requires { count ≤ 128 }
+        ensures { LeafRead count job hours done groups self.old self.new result }
+    {
+        if job >= count {
+            return None;
+        }
+        if done >= count {
+            return None;
+        }
+        let mark = usize::from(job);
+        if self.seen[mark] != 0 {
+            return None;
+        }
+        self.seen[mark] = 1;
+        let place = usize::from(done);
+        self.forward[place] = job;
+        self.hours[mark] = hours;
+        Some(Part {
+            done: done + 1,
+            groups,
+            least: job,
+            first: job,
+            last: job,
+        })
     }
-    if done >= count {
-        return refused();
-    }
-    let mark = job as usize;
-    if seen[mark] != 0 {
-        return refused();
-    }
-    seen[mark] = 1;
-    let place = done as usize;
-    forward[place] = job;
-    hours[mark] = node.hours;
-    Part {
-        ok: true,
-        done: done + 1,
-        groups: groups,
-        least: job,
-        first: job,
-        last: job,
+
+    // The children of a group that were read, and the next one: in the reverse sequence it follows those of a chain, and stands ahead of those of
+    // a side group.
+    pub fn joined<const SERIES: bool>(&mut self, part: Part, child: Part) -> Part
+        requires { (front (kind_by SERIES) part child).last < 128 }
+        ensures value { result ≡ linked_part (kind_by SERIES) part child }
+        ensures lists { self.new ≡ linked_lists (kind_by SERIES) self.old part child }
+    {
+        let (front, behind) = if SERIES { (part, child) } else { (child, part) };
+        self.next[usize::from(front.last)] = behind.first;
+        Part {
+            done: child.done,
+            groups: child.groups,
+            least: part.least.min(child.least),
+            first: front.first,
+            last: behind.last,
+        }
     }
 }
 
@@ -84,45 +92,5 @@ pub fn outranks(size: u8, least: u8, jobs: u8, smallest: u8) -> bool
         least < smallest
     } else {
         jobs < size
-    }
-}
-
-// The children of a chain that were read, which are none if `part` is not ok, and the next one, which follows them in the reverse sequence.
-pub fn chained(part: Part, child: Part, next: &mut [u8; 128]) -> Part
-    requires { part.ok ≡ true → part.last < 128 }
-    ensures { (result ≡ longer series part child) × (next.new ≡ longer_next series part child next.old) }
-{
-    if !part.ok {
-        return child;
-    }
-    let last = part.last as usize;
-    next[last] = child.first;
-    Part {
-        ok: true,
-        done: child.done,
-        groups: child.groups,
-        least: part.least.min(child.least),
-        first: part.first,
-        last: child.last,
-    }
-}
-
-// The same of a side group, where the next child is ahead in the reverse sequence.
-pub fn sided(part: Part, child: Part, next: &mut [u8; 128]) -> Part
-    requires { child.last < 128 }
-    ensures { (result ≡ longer parallel part child) × (next.new ≡ longer_next parallel part child next.old) }
-{
-    if !part.ok {
-        return child;
-    }
-    let last = child.last as usize;
-    next[last] = part.first;
-    Part {
-        ok: true,
-        done: child.done,
-        groups: child.groups,
-        least: part.least.min(child.least),
-        first: child.first,
-        last: part.last,
     }
 }

@@ -17,20 +17,10 @@ decreases-side l = children_measure l.bytes.now l.done l.groups
 abbrev pub decreases-side_child : goal.decreases-side_child
 decreases-side_child l = child_measure l.bytes.now l.done l.groups
 
-abbrev pub invariant-chain-loop-left : goal.invariant-chain-loop-left
-invariant-chain-loop-left l =
-    Run series l.bytes l.count l.more l.done l.groups
-    (record { seen = l.fn.seen; forward = l.fn.forward; next = l.fn.next; hours = l.fn.hours }) l.left 0 0
-    (record { seen = l.seen; forward = l.forward; next = l.next; hours = l.hours }) l.part
+abbrev pub invariant-chain-loop-i : goal.invariant-chain-loop-i
+invariant-chain-loop-i l =
+    Run series l.bytes l.count l.more l.done l.groups l.fn.lists l._i 0 0 l.lists l.here l.there l.part
 
-abbrev pub decreases-chain-loop-left : goal.decreases-chain-loop-left
-decreases-chain-loop-left l = l.left
-
-abbrev pub invariant-side-loop-left : goal.invariant-side-loop-left
-invariant-side-loop-left l =
-    Run parallel l.bytes l.count l.more l.done l.groups
-    (record { seen = l.fn.seen; forward = l.fn.forward; next = l.fn.next; hours = l.fn.hours }) l.left l.size l.least
-    (record { seen = l.seen; forward = l.forward; next = l.next; hours = l.hours }) l.part
-
-abbrev pub decreases-side-loop-left : goal.decreases-side-loop-left
-decreases-side-loop-left l = l.left
+abbrev pub invariant-side-loop-i : goal.invariant-side-loop-i
+invariant-side-loop-i l =
+    Run parallel l.bytes l.count l.more l.done l.groups l.fn.lists l._i l.size l.least l.lists l.here l.there l.part
