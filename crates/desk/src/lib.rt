@@ -1,4 +1,5 @@
-//! The planning desk's calls, for C (crate `desk_c` exports them): an answer is one number. An analysis hands back no sequences and no hours.
+//! The planning desk's calls, for C (crate `desk_c` exports them): an answer is one number. An analysis hands back no
+//! sequences and no hours.
 
 #![tactic(auto)]
 
@@ -70,7 +71,7 @@ pub fn ordersheet_longest_run(bytes: &[u8]) -> Run
     }
 }
 
-// The gangs: the answer, how many there are, the hours of each gang's jobs together, and the gang of each job, then zeros.
+// The gangs: the answer, how many, the hours of each gang's jobs together, and the gang of each job, then zeros.
 #[repr(C)]
 #[derive(Clone, Copy)]
 pub struct Plan {

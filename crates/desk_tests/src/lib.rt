@@ -1,5 +1,5 @@
-//! For tests alone: the desk's calls, and beside them what the desk does not hand out: the sequences, the hours that are read back, and the
-//! analysis of a pair list.
+//! For tests alone: the desk's calls, and beside them what the desk does not hand out: the sequences, the hours that
+//! are read back, and the analysis of a pair list.
 
 #![tactic(auto)]
 

@@ -13,8 +13,8 @@ pub enum Kind {
     Side,
 }
 
-// An open group: its kind, how many children are to come after the present one, the first gang of the present child, and one past the last gang of
-// the group so far.
+// An open group: its kind, how many children are to come after the present one, the first gang of the present child,
+// and one past the last gang of the group so far.
 #[derive(Clone, Copy)]
 pub struct Group {
     kind: Kind,
@@ -24,7 +24,8 @@ pub struct Group {
 }
 
 impl Group {
-    // At its next child, whose gangs begin in a chain where those of the present one do, in a side group after the group's so far.
+    // At its next child, whose gangs begin in a chain where those of the present one do, in a side group after the
+    // group's so far.
     fn next_child(self) -> Group
         requires { 0 < self.coming }
         ensures { NextChild self result }
@@ -40,8 +41,8 @@ impl Group {
     }
 }
 
-// The open groups: the present one, how many stand around it, and these, the outermost first, in a list of a fixed length, since nothing is on the
-// heap.
+// The open groups: the present one, how many stand around it, and these, the outermost first, in a list of a fixed
+// length, since nothing is on the heap.
 #[derive(Clone, Copy)]
 pub struct Groups {
     present: Group,
@@ -85,7 +86,8 @@ pub struct Numbering {
 }
 
 impl Numbering {
-    // One node more, by its token, a number as `Listed` has it: a leaf's job gets the gang of its place, a group is opened.
+    // One node more, by its token, a number as `Listed` has it: a leaf's job gets the gang of its place, a group is
+    // opened.
     fn take(&mut self, token: usize, jobs: &[u16; 128])
         requires { AllBelow (2 ^ hours_bits) jobs.now × ((t : Tree) × (xs : List ℕ) × Ready t jobs.now self.old (token ∷ xs)) }
         ensures { Takes token jobs.now self.old self.new }

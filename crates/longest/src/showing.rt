@@ -9,7 +9,8 @@ pub struct Showing {
     pub jobs: [u8; 128],
 }
 
-// The jobs from the first to the last, each followed by its next: a walk that ends at a job, so that no list or range is there to go over.
+// The jobs from the first to the last, each followed by its next: a walk that ends at a job, so that no list or range
+// is there to go over.
 pub fn shown(next: &[u8; 128], first: u8, last: u8) -> Showing
     requires { (jobs : List ℕ) × Linked next.now first last jobs }
     ensures { (jobs : List ℕ) → Linked next.now first last jobs → Shown jobs result }

@@ -1,5 +1,6 @@
-//! The longest run, over a record's nodes from the last to the first. The trees that begin at the nodes taken so far stand in a row; a stack
-//! has the run of each, the first on top. A run is its total, its first and its last job, and the jobs between by a list of next jobs.
+//! The longest run, over a record's nodes from the last to the first. The trees that begin at the nodes taken so far
+//! stand in a row; a stack has the run of each, the first on top. A run is its total, its first and its last job, and
+//! the jobs between by a list of next jobs.
 ghost use Rattle.std.specs.Prelude.{ℕ, ◌^◌, ◌≡◌, List, [], ◌∷◌, length};
 ghost use Rattle.poset.specs.Tree.{series, parallel, Tree};
 ghost use Rattle.record.specs.Bits.{AllBelow};
@@ -16,8 +17,8 @@ pub struct Run {
     pub last: u8,
 }
 
-// The runs of the trees in a row from the entry `top` on, and for each job the one after it in its run. Lists of a fixed length, since nothing is on
-// the heap.
+// The runs of the trees in a row from the entry `top` on, and for each job the one after it in its run. Lists of a
+// fixed length, since nothing is on the heap.
 #[derive(Clone, Copy)]
 pub struct Stack {
     top: usize,
@@ -58,7 +59,8 @@ impl Stack {
         self.top = end;
     }
 
-    // One node more, by its token, a number as `Step` has it: the run of a leaf goes on top, that of a group takes the place of its children's.
+    // One node more, by its token, a number as `Step` has it: the run of a leaf goes on top, that of a group takes
+    // the place of its children's.
     fn take(&mut self, token: usize, hours: &[u16; 128])
         requires { AllBelow (2 ^ hours_bits) hours.now × ((ts us : List Tree) × Step token ts us × Fits us
             × Stacked (hours_of hours.now) ts self.old) }

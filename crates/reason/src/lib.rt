@@ -32,7 +32,8 @@ impl From<Rule> for u64 {
     }
 }
 
-// The rule, the position of the lowest group over both jobs, in nodes from 0, and how many jobs are under it; of one job, its leaf's.
+// The rule, the position of the lowest group over both jobs, in nodes from 0, and how many jobs are under it; of one
+// job, its leaf's.
 #[derive(Clone, Copy)]
 pub struct Reason {
     pub rule: Rule,

@@ -1,5 +1,6 @@
-//! The lowest node over two jobs, over a record's nodes from the last to the first. The nodes taken so far are trees in a row; the one taken last begins
-//! the first of them, which is over both jobs exactly where the row has both and the trees after it have neither.
+//! The lowest node over two jobs, over a record's nodes from the last to the first. The nodes taken so far are trees
+//! in a row; the one taken last begins the first of them, which is over both jobs exactly where the row has both and
+//! the trees after it have neither.
 ghost use Rattle.std.specs.Prelude.{◌≡◌, cond, List, [], ◌∷◌, eqb, length};
 ghost use Rattle.poset.specs.Tree.{Tree, leaves};
 ghost use Rattle.reader.specs.Nodes.{Step, Fits};
@@ -62,7 +63,8 @@ impl Row {
         }
     }
 
-    // One node more, by its token, a number as `Step` has it: a leaf is one tree more, a group takes the place of its children.
+    // One node more, by its token, a number as `Step` has it: a leaf is one tree more, a group takes the place of its
+    // children.
     fn take(self, token: usize, first: usize, second: usize) -> Row
         requires { (ts us : List Tree) × Step token ts us × Fits us × Rowed first second ts self }
         ensures { Takes token first second self result }

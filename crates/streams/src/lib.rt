@@ -41,7 +41,8 @@ pub fn read_full<R: Read>(input: &mut R, buf: &mut [u8]) -> io::Result<usize>
     Ok(done)
 }
 
-// A line on standard error: what failed, and as much of the error's text as 256 bytes hold, without the number that std adds to it.
+// A line on standard error: what failed, and as much of the error's text as 256 bytes hold, without the number that
+// std adds to it.
 pub fn tell(rt: &impl Eprint, what: &str, error: io::Error) -> io::Result<()> {
     let mut text = [0u8; 256];
     let mut rest = &mut text[..];
