@@ -21,13 +21,12 @@ use Rattle.poset.proofs.Theorems.{tree_of_means, tree_of_sound, tree_has_no_n}
 use Rattle.relation.specs.Table.{members}
 use Rattle.record.specs.Tokens.{group_token, tokens}
 use Rattle.writer.specs.declared.stack.Entry.{Entry}
-use Rattle.writer.specs.declared.tree.Draft.{Draft}
 use Rattle.writer.specs.declared.tree.Shape.{Shape}
 use Rattle.writer.specs.Parts.{lead, Taken, close_of}
 use Rattle.writer.specs.Compared.{transpose, Tables}
 use Rattle.writer.specs.Shapes.{no_shape, shape}
 use Rattle.writer.specs.Stack.{jobs_of, spread_out, group_field_of}
-use Rattle.writer.specs.Turns.{Grouped, Leafed}
+use Rattle.writer.specs.Turns.{State, Grouped, Leafed}
 use Rattle.writer.proofs.Stores.{stored, blank_next, whole_list}
 use Rattle.writer.proofs.Worklist.{Pending, Todo, spread, todo_leaf, todo_group, todo_none, todo_all, GroupOf}
 use Rattle.writer.proofs.Groups.{kind_of, splits_group}
@@ -60,7 +59,7 @@ todo_same : (n : ℕ) (r : Rel) {out out' fwd fwd' rev rev' : List ℕ} {g g' : 
     → ps' ≡ ps → Todo n r out fwd rev g ps → Todo n r out' fwd' rev' g' ps'
 todo_same n r a b c d e = subst (λ (A : Type 0). A) (λ i. Todo n r (sym a i) (sym b i) (sym c i) (sym d i) (sym e i))
 
-module _ {n : ℕ} {under tied free : Rel} (t : Tables n under tied free) (e : Entry) (d : Draft)
+module _ {n : ℕ} {under tied free : Rel} (t : Tables n under tied free) (e : Entry) (d : State)
     (x : Shaping n (transpose under) tied free d.shape d.placed (e ∷ d.stack)) where
   abbrev r : Rel
   r = transpose under
@@ -76,7 +75,7 @@ module _ {n : ℕ} {under tied free : Rel} (t : Tables n under tied free) (e : E
       (omega (arith, x.whole), omega (arith, x.whole, x.count_is, x.groups_few), omega (arith, x.whole), omega (arith, x.whole, x.groups_few))
 
   -- a single job
-  pub leaf_turn : {d' : Draft} → Leafed e d d' → Shaping n r tied free d'.shape d'.placed d'.stack
+  pub leaf_turn : {d' : State} → Leafed e d d' → Shaping n r tied free d'.shape d'.placed d'.stack
   leaf_turn l =
       let j = lead e.set in
       let one = single e.set l.one in
@@ -143,7 +142,7 @@ module _ {n : ℕ} {under tied free : Rel} (t : Tables n under tied free) (e : E
         (todo_group n r (kind_of series) (take d.shape.count d.shape.fields) (take d.placed d.shape.forward) d.shape.reverse d.shape.groups e.start (members e.set)
         (members b) (members c) (map members ps) (pend d.stack) g x.todo)
 
-    pub group_turn : {d' : Draft} → Grouped count parts e d d' → Shaping n r tied free d'.shape d'.placed d'.stack
+    pub group_turn : {d' : State} → Grouped count parts e d d' → Shaping n r tied free d'.shape d'.placed d'.stack
     group_turn g =
         let field = group_field_of series (count - 1) in
         let jobs_same = cut_jobs cut in

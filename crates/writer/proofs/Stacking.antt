@@ -3,23 +3,27 @@ use Prim.Native.Nat.{ℕ, zero, suc, ◌+◌, ◌≤◌, ◌<◌}
 use mathlib.Core.Path.{◌≡◌, refl, sym, ap, ap₂, ◌∙◌}
 use mathlib.Core.List.{List, [], ◌∷◌, ◌++◌}
 use mathlib.Core.Bool.{Bool, not}
+use native.Mathlib.Numerals.{add-one}
 use native.Mathlib.Omega.{arith}
-use lib.ListN.{length, drop, get_or, drop_of_length-le}
-use lib.Seq.{drop-cons}
-use Rattle.std.specs.Prelude.{Some, None}
+use lib.ListN.{length, take, drop, get_or, set, drop_of_length-le}
+use lib.Seq.{drop-cons, take-suc, length-take-le}
+use Rattle.std.specs.Prelude.{reverse}
+use Rattle.std.proofs.lemmas.List.{take_more_set, reverse-append, length-reverse}
 use Rattle.relation.specs.Table.{members}
-use Rattle.writer.specs.Stack.{top, jobs_of, start_at, opened}
+use Rattle.writer.specs.Stack.{held, jobs_of, start_at, opened}
 use Rattle.writer.specs.declared.stack.Entry.{Entry}
 
--- the first of a list, and the others
+-- the top of a stack, and the others
+pub held_top : (es : List Entry) (height : ℕ) (d : Entry) → height < length es → held es (height + 1) ≡ get_or es height d ∷ held es height
+held_top es height d l =
+    ap reverse (ap (λ k. take k es) (add-one height) ∙ take-suc es height d l) ∙ reverse-append (take height es) (get_or es height d ∷ [])
 
-pub popped : (es : List Entry) (e : Entry) (others : List Entry) → Some e ≡ top es → others ≡ drop 1 es → es ≡ e ∷ others
-popped [] e others p q = absurd (cc)
-popped (x ∷ es) e others p q = let same : e ≡ x = cc in ap₂ ◌∷◌ (sym same) (sym q)
+-- an entry stored on top
+pub stacked : (es : List Entry) (h : ℕ) (e : Entry) → h < length es → held (set es h e) (h + 1) ≡ e ∷ held es h
+stacked es h e l = ap reverse (take_more_set es h e l) ∙ reverse-append (take h es) (e ∷ [])
 
-pub emptied : (es : List Entry) → None ≡ top es → es ≡ []
-emptied [] p = refl
-emptied (x ∷ es) p = absurd (cc)
+pub height_is : (es : List Entry) (h : ℕ) → h ≤ length es → length (held es h) ≡ h
+height_is es h l = length-reverse (take h es) ∙ length-take-le h es l
 
 abbrev entry : List ℕ → ℕ → Bool → Entry
 entry s a k = record { set = s; start = a; series = k }

@@ -14,24 +14,28 @@ use Rattle.poset.proofs.Laws.{lt_true}
 use Rattle.poset.proofs.Sums.{length_below}
 use Rattle.relation.specs.Table.{has, members}
 use Rattle.writer.specs.declared.stack.Entry.{Entry}
-use Rattle.writer.specs.declared.tree.Draft.{Draft}
+use Rattle.writer.specs.declared.draft.Progress.{Progress}
+use Rattle.writer.specs.declared.draft.Draft.{Draft}
 use Rattle.writer.specs.declared.tree.Shape.{Shape}
 use Rattle.writer.specs.Compared.{transpose, Tables}
 use Rattle.writer.specs.Parts.{Taken, close_of}
-use Rattle.writer.specs.Turns.{TopRoom, SpreadRoom, Blank, Rooted, Stepped, put, opens, stays}
+use Rattle.writer.specs.Turns.{State, state, TopRoom, SpreadRoom, Blank, Rooted, Stepped, put, opens, stays}
 use Rattle.writer.proofs.Roots.{members_all, root_cut, cut_jobs, cut_joined, stuck}
 use Rattle.writer.proofs.Shaping.{Shaping, shaping_same, top_ok, room, leaf_turn, group_turn, shape_start, no_tree}
 
 -- a set taken apart has room for its parts
-pub spread_room : (e : Entry) (d : Draft) → TopRoom e d → {close under : Rel} {flag : Bool} {numbers numbers' : List ℕ}
-    → Taken close under flag e.set d.parts.list d.parts.count numbers numbers' → 0 < d.parts.count → SpreadRoom e d
+pub spread_room : (e : Entry) (d : State) → TopRoom e d → {close under : Rel} {flag : Bool} {parts : List (List ℕ)} {count : ℕ} {numbers numbers' : List ℕ}
+    → Taken close under flag e.set parts count numbers numbers' → 0 < count → SpreadRoom count parts e d
 spread_room e d m cut some = record { room = m; some = some; few = cut.few; same_jobs = cut_jobs cut }
+
+same : {p q : Progress} → Some p ≡ Some q → p ≡ q
+same e = cc
 
 abbrev root : List ℕ → Bool → Entry
 root all flag = record { set = all; start = 0; series = flag }
 
 -- all jobs below n
-pub root_room : (d : Draft) → Blank d → (n : ℕ) (all : List ℕ) (flag : Bool) → 0 < n → n ≤ 128 → ((v : ℕ) → has all v ≡ ltb v n) → TopRoom (root all flag) d
+pub root_room : (d : State) → Blank d → (n : ℕ) (all : List ℕ) (flag : Bool) → 0 < n → n ≤ 128 → ((v : ℕ) → has all v ≡ ltb v n) → TopRoom (root all flag) d
 root_room d b n all flag pos few is_all =
     let size : length (members all) ≡ n = ap length (members_all all n few is_all) ∙ length_below n in
     record {
@@ -44,7 +48,7 @@ root_room d b n all flag pos few is_all =
     }
 
 module _ {n : ℕ} {under tied free : Rel} (t : Tables n under tied free) where
-  pub root_shaping : (d d' : Draft) → Blank d → Rooted n free under d d' → Shaping n (transpose under) tied free d'.shape d'.placed d'.stack
+  pub root_shaping : (d d' : State) → Blank d → Rooted n free under d d' → Shaping n (transpose under) tied free d'.shape d'.placed d'.stack
   root_shaping d d' b x =
       let all = x.all in
       let flag = ltb 1 x.split.count in
@@ -61,7 +65,7 @@ module _ {n : ℕ} {under tied free : Rel} (t : Tables n under tied free) where
             shaping_same n r tied free (same.1 ∙ b.shape) (same.2 ∙ b.placed) (same.0 ∙ ap (λ es. root all flag ∷ es) b.stack) first
       ]
 
-  module _ (e : Entry) (d : Draft) (x : Shaping n (transpose under) tied free d.shape d.placed (e ∷ d.stack)) where
+  module _ (e : Entry) (d : State) (x : Shaping n (transpose under) tied free d.shape d.placed (e ∷ d.stack)) where
     pub turn_room : TopRoom e d
     turn_room =
         let ok = (top_ok t e d x).0 in
@@ -76,23 +80,26 @@ module _ {n : ℕ} {under tied free : Rel} (t : Tables n under tied free) where
           few_jobs = omega (arith, m.2);
         }
 
-    module _ (d' : Draft) where
-      pub turn_next : {o : Option (Unit {0})} → Stepped tied free under e d d' o → o ≡ Some tt → Shaping n (transpose under) tied free d'.shape d'.placed d'.stack
-      turn_next (put l) i = leaf_turn t e d x l
-      turn_next (opens a two g) i = group_turn t e d x a.taken two g
+    module _ (d' : Draft) (q : Progress) where
+      pub turn_next : {o : Option Progress} → Stepped tied free under e d d' o → o ≡ Some q
+          → Shaping n (transpose under) tied free (state d' q).shape q.placed (state d' q).stack
+      turn_next (put p l) i =
+          subst (λ q. Shaping n (transpose under) tied free (state d' q).shape q.placed (state d' q).stack) (same i) (leaf_turn t e d x l)
+      turn_next (opens p a two g) i =
+          subst (λ q. Shaping n (transpose under) tied free (state d' q).shape q.placed (state d' q).stack) (same i) (group_turn t e d x a.taken two g)
       turn_next (stays a one more) i = absurd (cc)
 
       -- one field more
-      pub turn_more : {o : Option (Unit {0})} → Stepped tied free under e d d' o → o ≡ Some tt → d'.shape.count ≡ d.shape.count + 1
-      turn_more (put l) i = ap (λ (s : Shape). s.count) l.field
-      turn_more (opens a two g) i = ap (λ (s : Shape). s.count) g.field
+      pub turn_more : {o : Option Progress} → Stepped tied free under e d d' o → o ≡ Some q → q.count ≡ d.shape.count + 1
+      turn_more (put p l) i = sym (ap (λ (q : Progress). q.count) (same i)) ∙ ap (λ (s : Shape). s.count) l.field
+      turn_more (opens p a two g) i = sym (ap (λ (q : Progress). q.count) (same i)) ∙ ap (λ (s : Shape). s.count) g.field
       turn_more (stays a one more) i = absurd (cc)
 
-      -- there is no tree
-      pub turn_none : {o : Option (Unit {0})} → Stepped tied free under e d d' o → o ≡ None → tree_of n (transpose under) ≡ None
-      turn_none (put l) i = absurd (cc)
-      turn_none (opens a two g) i = absurd (cc)
-      turn_none (stays a one more) i =
-          let top = (top_ok t e d x).0 in
-          let few = t.few in
-          no_tree n (transpose under) t.strict (stuck t e top more (cut_joined a.taken (omega (arith, top.fits)) one top.some))
+    -- there is no tree
+    pub turn_none : (d' : Draft) {o : Option Progress} → Stepped tied free under e d d' o → o ≡ None → tree_of n (transpose under) ≡ None
+    turn_none d' (put p l) i = absurd (cc)
+    turn_none d' (opens p a two g) i = absurd (cc)
+    turn_none d' (stays a one more) i =
+        let top = (top_ok t e d x).0 in
+        let few = t.few in
+        no_tree n (transpose under) t.strict (stuck t e top more (cut_joined a.taken (omega (arith, top.fits)) one top.some))

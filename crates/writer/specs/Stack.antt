@@ -1,15 +1,14 @@
 -- The sets still to be taken apart, the next one first.
 -- An inner contract: who reads the promise of write_record need not believe it, but specs/Written.antt alone.
-use Rattle.std.specs.Prelude.{ℕ, ◌+◌, ◌-◌, List, [], ◌∷◌, Bool, true, false, Option, None, Some, not, length}
+use Rattle.std.specs.Prelude.{ℕ, ◌+◌, ◌-◌, List, [], ◌∷◌, Bool, true, false, not, length, reverse, take}
 use Rattle.poset.specs.Lists.{sum}
 use Rattle.relation.specs.Table.{members}
 use Rattle.writer.specs.Parts.{size_of}
 use Rattle.writer.specs.declared.stack.Entry.{Entry}
 
--- the first of a list
-abbrev pub top : List Entry → Option Entry
-top [] = None
-top (e ∷ es) = Some e
+-- the entries of a stack of this height, the top first
+abbrev pub held : List Entry → ℕ → List Entry
+held es height = reverse (take height es)
 
 -- how many jobs some sets have together
 abbrev pub jobs_of : List (List ℕ) → ℕ

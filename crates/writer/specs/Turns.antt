@@ -4,50 +4,64 @@ use Rattle.std.specs.Prelude.{ℕ, ◌+◌, ◌≤◌, ◌<◌, ◌≡◌, List,
 use Rattle.poset.specs.Order.{Rel}
 use Rattle.relation.specs.Table.{has}
 use Rattle.writer.specs.Parts.{size_of, lead, Taken, close_of}
-use Rattle.writer.specs.Stack.{jobs_of, opened}
+use Rattle.writer.specs.Stack.{held, jobs_of, opened}
 use Rattle.writer.specs.Shapes.{no_shape, with_leaf, with_group}
-use Rattle.writer.specs.declared.parts.Parts.{Parts}
 use Rattle.writer.specs.declared.stack.Entry.{Entry}
-use Rattle.writer.specs.declared.tree.Draft.{Draft}
+use Rattle.writer.specs.declared.draft.Draft.{Draft}
+use Rattle.writer.specs.declared.draft.Progress.{Progress}
+use Rattle.writer.specs.declared.tree.Shape.{Shape}
+
+-- a tree on the way: its shape as far as it is written, the jobs in it, and the sets that are still to be taken apart
+pub record State : Type 0 where
+  pub shape : Shape
+  pub placed : ℕ
+  pub stack : List Entry
+
+abbrev pub state_at : Draft → ℕ → ℕ → ℕ → ℕ → State
+state_at d height count groups placed =
+    record {
+      shape = record { fields = d.fields; count = count; groups = groups; forward = d.forward; reverse = d.reverse };
+      placed = placed;
+      stack = held d.entries height;
+    }
+
+abbrev pub state : Draft → Progress → State
+state d p = state_at d p.height p.count p.groups p.placed
 
 -- there is room for what becomes of an entry
-pub record TopRoom (e : Entry) (d : Draft) : Type 0 where
+pub record TopRoom (e : Entry) (s : State) : Type 0 where
   pub some : 0 < size_of e.set
-  pub level : length d.stack + size_of e.set ≤ 128
+  pub level : length s.stack + size_of e.set ≤ 128
   pub fits : e.start + size_of e.set ≤ 128
-  pub few_fields : d.shape.count < 256
-  pub few_groups : d.shape.groups < 256
-  pub few_jobs : d.placed < 128
+  pub few_fields : s.shape.count < 256
+  pub few_groups : s.shape.groups < 256
+  pub few_jobs : s.placed < 128
 
--- the sets that stand in a list of parts
-abbrev pub listed : Parts → List (List ℕ)
-listed p = take p.count p.list
-
--- the parts of an entry may take its place
-pub record SpreadRoom (e : Entry) (d : Draft) : Type 0 where
-  pub room : TopRoom e d
-  pub some : 0 < d.parts.count
-  pub few : d.parts.count ≤ size_of e.set
-  pub same_jobs : jobs_of (listed d.parts) ≡ size_of e.set
+-- so many parts of an entry may take its place
+pub record SpreadRoom (count : ℕ) (parts : List (List ℕ)) (e : Entry) (s : State) : Type 0 where
+  pub room : TopRoom e s
+  pub some : 0 < count
+  pub few : count ≤ size_of e.set
+  pub same_jobs : jobs_of (take count parts) ≡ size_of e.set
 
 -- nothing is written, and nothing is on the stack
-pub record Blank (d : Draft) : Type 0 where
-  pub shape : d.shape ≡ no_shape
-  pub placed : d.placed ≡ 0
-  pub stack : d.stack ≡ []
+pub record Blank (s : State) : Type 0 where
+  pub shape : s.shape ≡ no_shape
+  pub placed : s.placed ≡ 0
+  pub stack : s.stack ≡ []
 
 -- an entry has become a group of so many parts: its field, and its parts in its place
-pub record Grouped (count : ℕ) (parts : List (List ℕ)) (e : Entry) (d d' : Draft) : Type 0 where
-  pub these : d'.stack ≡ opened e (take count parts) ++ d.stack
-  pub field : d'.shape ≡ with_group e.series count d.shape
-  pub no_job : d'.placed ≡ d.placed
+pub record Grouped (count : ℕ) (parts : List (List ℕ)) (e : Entry) (s t : State) : Type 0 where
+  pub these : t.stack ≡ opened e (take count parts) ++ s.stack
+  pub field : t.shape ≡ with_group e.series count s.shape
+  pub no_job : t.placed ≡ s.placed
 
 -- an entry was a single job: its field, and its place in both sequences
-pub record Leafed (e : Entry) (d d' : Draft) : Type 0 where
+pub record Leafed (e : Entry) (s t : State) : Type 0 where
   pub one : size_of e.set ≡ 1
-  pub these : d'.stack ≡ d.stack
-  pub field : d'.shape ≡ with_leaf (lead e.set) d.placed e.start d.shape
-  pub one_job : d'.placed ≡ d.placed + 1
+  pub these : t.stack ≡ s.stack
+  pub field : t.shape ≡ with_leaf (lead e.set) s.placed e.start s.shape
+  pub one_job : t.placed ≡ s.placed + 1
 
 -- a set taken apart
 pub record Parted (near under : Rel) (series : Bool) (s : List ℕ) : Type 0 where
@@ -62,16 +76,17 @@ abbrev pub PartedAs : Rel → Rel → Rel → Entry → Type 0
 PartedAs tied free under e = Parted (close_of e.series tied free) under e.series e.set
 
 -- all jobs below n are taken apart as a series: if they come apart, they become a group, and else they are on the stack
-pub record Rooted (n : ℕ) (free under : Rel) (d d' : Draft) : Type 0 where
+pub record Rooted (n : ℕ) (free under : Rel) (s t : State) : Type 0 where
   pub all : List ℕ
   pub is_all : (v : ℕ) → has all v ≡ ltb v n
   pub split : Parted free under true all
-  pub apart : 2 ≤ split.count → Grouped split.count split.parts (record { set = all; start = 0; series = ltb 1 split.count }) d d'
+  pub apart : 2 ≤ split.count → Grouped split.count split.parts (record { set = all; start = 0; series = ltb 1 split.count }) s t
   pub whole : split.count < 2
-      → (d'.stack ≡ record { set = all; start = 0; series = ltb 1 split.count } ∷ d.stack) × (d'.shape ≡ d.shape) × (d'.placed ≡ d.placed)
+      → (t.stack ≡ record { set = all; start = 0; series = ltb 1 split.count } ∷ s.stack) × (t.shape ≡ s.shape) × (t.placed ≡ s.placed)
 
 -- one turn: an entry is put as a job, or becomes a group; or it is not taken apart, and the writing cannot go on
-pub data Stepped (tied free under : Rel) (e : Entry) (d d' : Draft) : Option (Unit {0}) → Type 0 where
-  put : Leafed e d d' → Stepped tied free under e d d' (Some tt)
-  opens : (a : PartedAs tied free under e) → 2 ≤ a.count → Grouped a.count a.parts e d d' → Stepped tied free under e d d' (Some tt)
-  stays : (a : PartedAs tied free under e) → a.count < 2 → (size_of e.set ≡ 1 → ⊥) → Stepped tied free under e d d' None
+pub data Stepped (tied free under : Rel) (e : Entry) (s : State) (d : Draft) : Option Progress → Type 0 where
+  put : (p : Progress) → Leafed e s (state d p) → Stepped tied free under e s d (Some p)
+  opens : (p : Progress) (a : PartedAs tied free under e) → 2 ≤ a.count → Grouped a.count a.parts e s (state d p)
+      → Stepped tied free under e s d (Some p)
+  stays : (a : PartedAs tied free under e) → a.count < 2 → (size_of e.set ≡ 1 → ⊥) → Stepped tied free under e s d None

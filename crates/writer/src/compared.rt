@@ -16,7 +16,8 @@ pub struct Compared<'a> {
     ghost rows: { length under.now ≡ 128 },
 }
 
-// Which jobs are comparable, and which incomparable, among those below n.
+// Which jobs are comparable, and which incomparable, among those below n. Into two lists that are lent: handing them
+// back copies 4,096 bytes, an eighth of the time of a small order.
 pub fn compare(
     after: &[JobSet; 128],
     under: &[JobSet; 128],

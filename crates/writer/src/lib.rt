@@ -5,6 +5,7 @@
 mod arrange;
 mod block;
 mod compared;
+mod draft;
 mod pack;
 mod parts;
 mod stack;

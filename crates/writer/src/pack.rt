@@ -6,7 +6,8 @@ ghost use Rattle.record.specs.Layout.{hours_bits, most_record_bytes};
 ghost use Rattle.record.specs.Tokens.{field_bits};
 ghost use Rattle.writer.specs.Packing.{Holds, Ready, Takes, Moves, Puts, Ends};
 
-// So many whole bytes, and some bits more in hand: the last ones of a value.
+// So many whole bytes, and some bits more in hand: the last ones of a value. Handed from step to step apart from the
+// bytes, so that it stays in registers, as Progress does.
 #[derive(Clone, Copy)]
 pub struct Packing {
     pub at: usize,
@@ -109,11 +110,8 @@ pub fn pack(n: usize, fields: &[u16], hours: &[u16; 128]) -> Packed
         have: 7,
         value: n - 1,
     };
-    let mut i = 0;
-    while i < fields.len() {
-        let next = put_field(&mut bytes, p, usize::from(fields[i]), hours);
-        p = next;
-        i += 1;
+    for field in fields {
+        p = put_field(&mut bytes, p, usize::from(*field), hours);
     }
     let count = finish(&mut bytes, p);
     Packed { bytes, count }

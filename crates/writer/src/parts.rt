@@ -32,7 +32,8 @@ fn mark(part: JobSet, number: u8, numbers: &mut [u8; 128])
     mark_each(part.high(), number, numbers);
 }
 
-// The part of s that x falls to: jobs that near joins stay together. Its jobs get the number, and are counted as they are gone through.
+// The part of s that x falls to: jobs that near joins stay together. Its jobs get the number, and are counted as they
+// are gone through.
 fn part_of(near: &[JobSet; 128], s: Block, x: usize, number: u8, numbers: &mut [u8; 128]) -> Block
     requires { has s x ≡ true }
     ensures part_of { PartOf (holds near.now) s x result }
@@ -64,8 +65,8 @@ fn part_of(near: &[JobSet; 128], s: Block, x: usize, number: u8, numbers: &mut [
     s
 }
 
-// A job of s that no job of s is before. From the smallest job down by the largest ahead of it: few steps where the jobs are numbered
-// forwards or backwards.
+// A job of s that no job of s is before. From the smallest job down by the largest ahead of it: few steps where the
+// jobs are numbered forwards or backwards.
 fn first_of(order: &Compared, s: JobSet) -> usize
     requires jobs { Jobs s }
     requires below_value { exists (has s) (below 128) ≡ true }
@@ -95,19 +96,18 @@ fn start_of(order: &Compared, series: bool, s: JobSet) -> usize
     }
 }
 
-// The parts of a set, as many entries from the first on, and for each job of the set the number that its part was found by.
+// The parts of a set, from the first entry on, and for each job of the set the number that its part was found by.
 #[derive(Drop)]
 pub struct Parts {
     pub list: [Block; 128],
-    pub count: usize,
     pub numbers: [u8; 128],
 }
 
 impl Parts {
-    // The parts of s under a relation, as they are found one after another.
-    pub fn split(&mut self, near: &[JobSet; 128], order: &Compared, series: bool, s: Block)
-        ensures cut { Cut (holds near.now) (holds order.now.under.now) series s self.new.list self.new.count }
-        ensures numbered { Numbered s self.new.list self.new.count self.old.numbers self.new.numbers }
+    // The parts of s under a relation, as they are found one after another, and how many there are.
+    fn split(&mut self, near: &[JobSet; 128], order: &Compared, series: bool, s: Block) -> usize
+        ensures cut { Cut (holds near.now) (holds order.now.under.now) series s self.new.list result }
+        ensures numbered { Numbered s self.new.list result self.old.numbers self.new.numbers }
     {
         let mut left = s;
         let mut count = 0;
@@ -118,19 +118,20 @@ impl Parts {
             left = left.without(part);
             count += 1;
         }
-        self.count = count;
+        count
     }
 
-    // The parts of s for a group of this kind, in its order.
-    pub fn split_as(&mut self, order: &Compared, series: bool, s: Block)
+    // The parts of s for a group of this kind, in its order, and how many there are.
+    pub fn split_as(&mut self, order: &Compared, series: bool, s: Block) -> usize
         ensures { Taken (close_of series (holds order.now.tied.now) (holds order.now.free.now)) (holds order.now.under.now) series s
-            self.new.list self.new.count self.old.numbers self.new.numbers }
+            self.new.list result self.old.numbers self.new.numbers }
     {
         if series {
-            self.split(order.free, order, true, s);
+            self.split(order.free, order, true, s)
         } else {
-            self.split(order.tied, order, false, s);
-            arrange::arrange(&mut self.list[..self.count]);
+            let count = self.split(order.tied, order, false, s);
+            arrange::arrange(&mut self.list[..count]);
+            count
         }
     }
 }

@@ -1,10 +1,9 @@
 //! The sets of jobs that are still to be taken apart.
-ghost use Rattle.std.specs.Prelude.{◌-◌, ◌<◌, ◌≡◌, ◌+◌, ◌∷◌, ◌++◌, ◌≤◌, length, drop};
+ghost use Rattle.std.specs.Prelude.{◌<◌, ◌≡◌, ◌+◌, ◌++◌, ◌≤◌, length};
 ghost use Rattle.writer.specs.Parts.{size_of};
-ghost use Rattle.writer.specs.Stack.{top, jobs_of, start_at, opened};
+ghost use Rattle.writer.specs.Stack.{held, jobs_of, start_at, opened};
 
 use crate::block::Block;
-use std::marker::Model;
 
 // A set of jobs, where it begins in the reverse sequence, and whether it is to become a series group.
 #[derive(Clone, Copy)]
@@ -15,8 +14,8 @@ pub struct Entry {
 }
 
 impl Entry {
-    // Where a part of the set begins in the reverse sequence, by its jobs and those of the parts after it. A series goes from left to right there,
-    // a parallel group from right to left.
+    // Where a part of the set begins in the reverse sequence, by its jobs and those of the parts after it. A series
+    // goes from left to right there, a parallel group from right to left.
     pub fn start_of(&self, later: usize, size: usize) -> usize
         requires whole_bound { self.now.start + size_of self.now.set ≤ 128 }
         requires size_bound { later + size ≤ size_of self.now.set }
@@ -31,61 +30,29 @@ impl Entry {
     }
 }
 
-// Sets of jobs, the last one on top.
-#[derive(Drop)]
-pub struct Stack {
-    pub entries: [Entry; 128],
-    pub height: usize,
-}
-
-impl Model for Stack {
-    ghost use Rattle.std.specs.Prelude.{List, ◌≤◌, reverse, take};
-    ghost use Rattle.writer.specs.declared.stack.Entry.{Entry};
-
-    ghost Value = { List Entry };
-
-    ghost view = { λ s. reverse (take s.height s.entries) };
-
-    ghost invariant = { λ s. s.height ≤ 128 };
-}
-
-impl Stack {
-    pub fn push(&mut self, e: Entry)
-        requires { length self.old < 128 }
-        ensures { self.new ≡ e ∷ self.old }
-    {
-        self.entries[self.height] = e;
-        self.height += 1;
+// The parts of an entry onto a stack of this height, the first on top: each is to become a group of the other kind. The
+// height then.
+pub fn spread(entries: &mut [Entry; 128], height: usize, e: Entry, parts: &[Block]) -> usize
+    requires room { height + length parts.now ≤ 128 }
+    requires fits { e.start + size_of e.set ≤ 128 }
+    requires same_jobs { jobs_of parts.now ≡ size_of e.set }
+    ensures value { result ≡ height + length parts.now }
+    ensures rows { length entries.new ≡ 128 }
+    ensures these { held entries.new result ≡ opened e parts.now ++ held entries.old height }
+{
+    let mut top = height;
+    let mut later = 0;
+    for i in (0..parts.len()).rev() {
+        let set = parts[i];
+        let size = set.size;
+        let start = e.start_of(later, size);
+        entries[top] = Entry {
+            set,
+            start,
+            series: !e.series,
+        };
+        top += 1;
+        later += size;
     }
-
-    pub fn pop(&mut self) -> Option<Entry>
-        ensures value { result ≡ top self.old }
-        ensures others { self.new ≡ drop 1 self.old }
-    {
-        if self.height == 0 {
-            return None;
-        }
-        self.height -= 1;
-        Some(self.entries[self.height])
-    }
-    // The parts of an entry, the first on top. Each is to become a group of the other kind.
-    pub fn spread(&mut self, e: Entry, parts: &[Block])
-        requires room { length self.old + length parts.now ≤ 128 }
-        requires fits { e.start + size_of e.set ≤ 128 }
-        requires same_jobs { jobs_of parts.now ≡ size_of e.set }
-        ensures { self.new ≡ opened e parts.now ++ self.old }
-    {
-        let mut later = 0;
-        for i in (0..parts.len()).rev() {
-            let set = parts[i];
-            let size = set.size;
-            let start = e.start_of(later, size);
-            self.push(Entry {
-                set,
-                start,
-                series: !e.series,
-            });
-            later += size;
-        }
-    }
+    top
 }

@@ -1,18 +1,20 @@
-//! The canonical tree of an order, written as its fields, node before children, from a stack of sets still to be taken apart.
+//! The canonical tree of an order, written as its fields, node before children, from a stack of sets still to be taken
+//! apart.
 ghost use Rattle.std.specs.Prelude.{ℕ, ◌+◌, ◌-◌, ◌<◌, ◌≤◌, ◌≡◌};
 ghost use Rattle.relation.specs.Table.{holds, Inside};
 ghost use Rattle.poset.specs.Order.{Strict};
 ghost use Rattle.poset.specs.Decompose.{tree_of};
-ghost use Rattle.writer.specs.Shapes.{shape, with_leaf, with_group};
-ghost use Rattle.writer.specs.Stack.{group_field_of};
-ghost use Rattle.writer.specs.Turns.{Blank, TopRoom, SpreadRoom, Grouped, Leafed, Rooted, Stepped};
 ghost use Rattle.writer.specs.Parts.{size_of};
+ghost use Rattle.writer.specs.Shapes.{shape};
+ghost use Rattle.writer.specs.Stack.{group_field_of};
+ghost use Rattle.writer.specs.Turns.{state_at, state, Blank, TopRoom, SpreadRoom, Grouped, Leafed, Rooted, Stepped};
 
 use crate::block::Block;
-use crate::compared;
 use crate::compared::Compared;
+use crate::draft::{Draft, Progress};
 use crate::parts::Parts;
-use crate::stack::{Entry, Stack};
+use crate::stack::Entry;
+use crate::{compared, stack};
 use record::NODE_ROOM;
 use relation::set::JobSet;
 
@@ -38,100 +40,92 @@ pub struct Shape {
     pub reverse: [u8; 128],
 }
 
-impl Shape {
-    // A job: its field, and its place in both sequences.
-    fn put_leaf(&mut self, job: usize, placed: usize, start: usize)
-        requires { (job < 128) × (placed < 128) × (start < 128) × (self.old.count < 256) }
-        ensures { self.new ≡ with_leaf job placed start self.old }
-    {
-        self.fields[self.count] = (job % 65536) as u16;
-        self.count += 1;
-        self.forward[placed] = (job % 256) as u8;
-        self.reverse[start] = (job % 256) as u8;
-    }
-
-    // A group: its field.
-    fn put_group(&mut self, series: bool, children: usize)
-        requires { (0 < children) × (children ≤ 128) × (self.old.count < 256) × (self.old.groups < 256) }
-        ensures { self.new ≡ with_group series children self.old }
-    {
-        self.fields[self.count] = group_field(series, children);
-        self.count += 1;
-        self.groups += 1;
-    }
-}
-
-// A tree on the way: its shape as far as it is written, the jobs in it, the sets that are still to be taken apart, and the parts of one.
-#[derive(Drop)]
-pub struct Draft {
-    pub shape: Shape,
-    pub placed: usize,
-    pub stack: Stack,
-    pub parts: Parts,
-}
-
 impl Draft {
-    // A single job, as a leaf.
-    fn put_leaf(&mut self, e: Entry)
-        requires room { TopRoom e self.old }
+    // A single job, as a leaf: its field, and its place in both sequences.
+    fn put_leaf(&mut self, e: Entry, p: Progress) -> Progress
+        requires room { TopRoom e (state self.old p) }
         requires one { size_of e.set ≡ 1 }
-        ensures { Leafed e self.old self.new }
+        ensures { Leafed e (state self.old p) (state self.new result) }
     {
         let set = e.set;
         let job = set.jobs.smallest();
-        self.shape.put_leaf(job, self.placed, e.start);
-        self.placed += 1;
+        self.fields[p.count] = (job % 65536) as u16;
+        self.forward[p.placed] = (job % 256) as u8;
+        self.reverse[e.start] = (job % 256) as u8;
+        Progress {
+            height: p.height,
+            count: p.count + 1,
+            groups: p.groups,
+            placed: p.placed + 1,
+        }
     }
 
-    // A set whose parts are listed, as a group: its field, and the parts in its place.
-    fn open(&mut self, e: Entry)
-        requires { SpreadRoom e self.old }
-        ensures { Grouped self.old.parts.count self.old.parts.list e self.old self.new }
+    // A set of so many parts, which are listed, as a group: its field, and the parts in its place.
+    fn open(&mut self, e: Entry, count: usize, p: Progress) -> Progress
+        requires { SpreadRoom count self.old.parts.list e (state self.old p) }
+        ensures { Grouped count self.old.parts.list e (state self.old p) (state self.new result) }
     {
-        self.shape.put_group(e.series, self.parts.count);
-        self.stack.spread(e, &self.parts.list[..self.parts.count]);
+        self.fields[p.count] = group_field(e.series, count);
+        let height = stack::spread(&mut self.entries, p.height, e, &self.parts.list[..count]);
+        Progress {
+            height,
+            count: p.count + 1,
+            groups: p.groups + 1,
+            placed: p.placed,
+        }
     }
 
     // All jobs; if they come apart as a series, they become the root group.
-    fn begin(&mut self, order: &Compared)
-        requires { Blank self.old }
-        ensures { Rooted order.now.n (holds order.now.free.now) (holds order.now.under.now) self.old self.new }
+    fn begin(&mut self, order: &Compared) -> Progress
+        requires { Blank (state_at self.old 0 0 0 0) }
+        ensures { Rooted order.now.n (holds order.now.free.now) (holds order.now.under.now)
+            (state_at self.old 0 0 0 0) (state self.new result) }
     {
         let all = Block::below(order.n);
-        self.parts.split_as(order, true, all);
+        let count = self.parts.split_as(order, true, all);
         let root = Entry {
             set: all,
             start: 0,
-            series: 1 < self.parts.count,
+            series: 1 < count,
         };
-        if self.parts.count < 2 {
-            self.stack.push(root);
-        } else {
-            self.open(root);
+        if count < 2 {
+            self.entries[0] = root;
+            return Progress {
+                height: 1,
+                count: 0,
+                groups: 0,
+                placed: 0,
+            };
         }
+        let p = Progress {
+            height: 0,
+            count: 0,
+            groups: 0,
+            placed: 0,
+        };
+        self.open(root, count, p)
     }
 
     // A set is put as a leaf, or becomes a group; or it cannot be taken apart, as its kind asks.
-    fn turn(&mut self, order: &Compared, e: Entry) -> Option<()>
-        requires { TopRoom e self.old }
-        ensures { Stepped (holds order.now.tied.now) (holds order.now.free.now) (holds order.now.under.now) e self.old self.new result }
+    fn turn(&mut self, order: &Compared, e: Entry, p: Progress) -> Option<Progress>
+        requires { TopRoom e (state self.old p) }
+        ensures { Stepped (holds order.now.tied.now) (holds order.now.free.now) (holds order.now.under.now)
+            e (state self.old p) self.new result }
     {
         let set = e.set;
         if set.size == 1 {
-            self.put_leaf(e);
-            return Some(());
+            return Some(self.put_leaf(e, p));
         }
-        self.parts.split_as(order, e.series, set);
-        if self.parts.count < 2 {
+        let count = self.parts.split_as(order, e.series, set);
+        if count < 2 {
             return None;
         }
-        self.open(e);
-        Some(())
+        Some(self.open(e, count, p))
     }
 }
 
-// The canonical tree of an order, if it has one, from its root on, one set of the stack after another. A set of two jobs or more that cannot be taken
-// apart, as its kind asks, has an N.
+// The canonical tree of an order, if it has one, from its root on, one set of the stack after another. A set of two
+// jobs or more that cannot be taken apart, as its kind asks, has an N.
 pub fn shape_of(after: [JobSet; 128], under: &[JobSet; 128], n: usize) -> Option<Shape>
     requires n_nonzero { (0 < n) × (n ≤ 128) }
     requires strict { Strict n (holds after) }
@@ -155,28 +149,29 @@ pub fn shape_of(after: [JobSet; 128], under: &[JobSet; 128], n: usize) -> Option
         series: false,
     };
     let mut draft = Draft {
-        shape: Shape {
-            fields: [0; NODE_ROOM],
-            count: 0,
-            groups: 0,
-            forward: [0; 128],
-            reverse: [0; 128],
-        },
-        placed: 0,
-        stack: Stack {
-            entries: [blank; 128],
-            height: 0,
-        },
+        entries: [blank; 128],
         parts: Parts {
             list: [none; 128],
-            count: 0,
             numbers: [0; 128],
         },
+        fields: [0; NODE_ROOM],
+        forward: [0; 128],
+        reverse: [0; 128],
     };
-    draft.begin(&order);
-    while let Some(e) = draft.stack.pop() {
-        draft.turn(&order, e)?;
+    let mut p = draft.begin(&order);
+    while 0 < p.height {
+        p.height -= 1;
+        let e = draft.entries[p.height];
+        p = draft.turn(&order, e, p)?;
     }
-    let written = draft.shape;
-    Some(written)
+    let fields = draft.fields;
+    let forward = draft.forward;
+    let reverse = draft.reverse;
+    Some(Shape {
+        fields,
+        count: p.count,
+        groups: p.groups,
+        forward,
+        reverse,
+    })
 }

@@ -20,7 +20,8 @@ pub struct Written {
     pub reverse: [u8; 128],
 }
 
-// after holds the order of n jobs, under the same turned round; hours has an entry for each job. Where no tree means the order there is no record.
+// after holds the order of n jobs, under the same turned round; hours has an entry for each job. Where no tree means
+// the order there is no record.
 pub fn write_record(
     after: [JobSet; 128],
     under: &[JobSet; 128],

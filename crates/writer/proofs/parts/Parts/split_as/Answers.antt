@@ -19,10 +19,10 @@ taken_as tied free under s parts count numbers numbers' e =
     subst (λ b. Taken (close_of b tied free) under b s parts count numbers numbers') (sym e)
 
 pub arrange-requires : goal.arrange-requires
-arrange-requires c = cut_leading c.split-else-series.ensures.cut
+arrange-requires c = cut_leading c.split-count.ensures.cut
 
 pub whole_as_front-arrange : goal.whole_as_front-arrange
-whole_as_front-arrange c = (cut_few c.split-else-series.ensures.cut, omega arith)
+whole_as_front-arrange c = (cut_few c.split-count.ensures.cut, omega arith)
 
 pub returns-then-series : goal.returns-then-series
 returns-then-series c =
@@ -31,13 +31,13 @@ returns-then-series c =
 
 pub returns-else-series : goal.returns-else-series
 returns-else-series c =
-    let e = c.split-else-series.ensures in
-    let split = c.split-else-series.new.self in
+    let e = c.split-count.ensures in
+    let count = c.split-count.result in
+    let list = c.split-count.new.self.list in
     let new = c.arrange.new.parts in
-    let front : length (take split.count split.list) ≡ split.count =
-    length-take-le split.count split.list (omega (arith, cut_few e.cut, e.cut.size)) in
-    let long : length new ≡ split.count = c.arrange.auto.parts ∙ front in
+    let front : length (take count list) ≡ count = length-take-le count list (omega (arith, cut_few e.cut, e.cut.size)) in
+    let long : length new ≡ count = c.arrange.auto.parts ∙ front in
     taken_as _ _ _ _ _ _ _ _ c.if-series.false
     (cut_arranged e.cut e.numbered _
-    (omega (arith, length-append new (drop split.count split.list), length-drop split.count split.list, long, cut_few e.cut, e.cut.size))
-    (take_at new (drop split.count split.list) split.count long ∙ c.arrange.ensures))
+    (omega (arith, length-append new (drop count list), length-drop count list, long, cut_few e.cut, e.cut.size))
+    (take_at new (drop count list) count long ∙ c.arrange.ensures))
