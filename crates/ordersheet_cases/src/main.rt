@@ -94,6 +94,7 @@ fn argument<'a>(rt: &HostRuntime, i: usize, buffer: &'a mut [u8; 64]) -> Option<
 }
 
 fn main(rt: HostRuntime) -> io::Result<()> {
+    // one by one, since `env::args` makes each on the heap
     for i in 1..usize::MAX {
         let mut buffer = [0u8; 64];
         let Some(path) = argument(&rt, i, &mut buffer) else {

@@ -26,6 +26,7 @@ fn read_more<R: Read>(input: &mut R, buf: &mut [u8], done: usize) -> io::Result<
 }
 
 // Reads until the input ends or the buffer is full: how many bytes the buffer holds then.
+// A `while`: each read takes the rest of the buffer, which no iterator hands out.
 pub fn read_full<R: Read>(input: &mut R, buf: &mut [u8]) -> io::Result<usize>
     ensures within { IfOk result (λ n. n ≤ length buf.new) }
     ensures reads { InputRead buf.old buf.new result }
@@ -41,8 +42,8 @@ pub fn read_full<R: Read>(input: &mut R, buf: &mut [u8]) -> io::Result<usize>
     Ok(done)
 }
 
-// A line on standard error: what failed, and as much of the error's text as 256 bytes hold, without the number that
-// std adds to it.
+// A line on standard error: what failed, and as much of the error's text as 256 bytes hold, without the number that std
+// adds to it. Bytes of its own, since a text that `InlineText` cuts ends in dots.
 pub fn tell(rt: &impl Eprint, what: &str, error: io::Error) -> io::Result<()> {
     let mut text = [0u8; 256];
     let mut rest = &mut text[..];
