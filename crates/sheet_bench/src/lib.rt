@@ -8,7 +8,7 @@ ghost use Rattle.sheet.specs.Listing.{result_of, hours_in, arcs_in, hours_listin
 ghost use Rattle.sheet_bench.specs.Packed.{packed};
 
 // Reads a sheet into the lists, as far as they have room: how many arcs there are plus 2^20 times one more than the
-// count, or the place of the fault.
+// count, or the place of the fault. One number, as its C caller takes it.
 #[unsafe(no_mangle)]
 pub extern "C" fn sheet_bench_read(s: &[u8], hours: &mut [u16], list: &mut [u16]) -> u64
     ensures { (result ≡ packed (result_of (scan s.now)))
