@@ -6,12 +6,11 @@ use Rattle.std.specs.Prelude.{Option, None, Some}
 use Rattle.std.specs.Prelude.{Result, Err}
 use Rattle.std.specs.Result.{IsErrAnd}
 use Rattle.std.proofs.lemmas.Result.{err_from_is_err_and}
-use Rattle.poset.specs.Areas.{overlay, padded, arc_bytes}
+use Rattle.poset.specs.Areas.{overlay, arc_bytes}
 use Rattle.poset.specs.Order.{Rel, Four, Strict, first_n_of}
 use Rattle.poset.specs.Tree.{Tree}
 use Rattle.poset.specs.Decompose.{tree_of}
 use Rattle.poset.proofs.Theorems.{tree_of_sound, tree_has_no_n, first_n_none}
-use Rattle.analysis.specs.Answer.{answer}
 use Rattle.analysis.specs.Outcome.{Rooms, Outcome, refuse, accept, fitted, decomposed}
 use Rattle.analysis.specs.Result.{refused, crossed_by, Gives}
 use Rattle.analysis.specs.declared.Refusal.{Refusal}

@@ -1,5 +1,5 @@
 -- What a call hands back and leaves in the areas, by the outcome.
-use Rattle.std.specs.Prelude.{ℕ, ◌≤◌, ◌<◌, ◌≡◌, List, [], Option, None, Some, Result, Ok, Err, IfOk, IfErr, ltb, length}
+use Rattle.std.specs.Prelude.{ℕ, ◌≤◌, ◌<◌, ◌≡◌, List, Option, None, Some, Result, Ok, Err, IfOk, IfErr, ltb, length}
 use Rattle.poset.specs.Order.{Arc, Rel, Four, Strict, before, first_on_cycle_of, first_n_of}
 use Rattle.poset.specs.Tree.{Tree}
 use Rattle.poset.specs.Decompose.{tree_of}

@@ -1,6 +1,6 @@
 //! The hours of jobs.
-ghost use Rattle.std.specs.Prelude.{ℕ, ◌≤◌, ◌≡◌, true, false, ltb, length};
-ghost use Rattle.std.specs.Prelude.{None, Some};
+ghost use Rattle.std.specs.Prelude.{◌≤◌, ◌≡◌, ltb, length};
+ghost use Rattle.std.specs.List.{list_any};
 ghost use Rattle.poset.specs.Areas.{padded};
 ghost use Rattle.relation.specs.Arcs.{place};
 ghost use Rattle.record.specs.Layout.{most_hours};
@@ -14,12 +14,11 @@ fn large(hours: u16) -> bool
 
 // Whether some job has more. A loop with no exit in it, for several jobs at a time.
 fn some_large(hours: &[u16]) -> bool
-    ensures { (result ≡ false → None ≡ place (ltb most_hours) hours.now)
-        × (result ≡ true → (j : ℕ) × (Some j ≡ place (ltb most_hours) hours.now)) }
+    ensures { result ≡ list_any (ltb most_hours) hours.now }
 {
     let mut some = false;
-    for i in 0..hours.len() {
-        if large(hours[i]) {
+    for job in hours {
+        if large(*job) {
             some = true;
         }
     }
@@ -33,12 +32,7 @@ pub fn first_large(hours: &[u16]) -> Option<usize>
     if !some_large(hours) {
         return None;
     }
-    for i in 0..hours.len() {
-        if large(hours[i]) {
-            return Some(i);
-        }
-    }
-    None
+    hours.iter().position(|job| large(*job))
 }
 
 // The hours with an entry for each of 128 jobs.

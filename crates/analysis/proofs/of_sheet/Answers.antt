@@ -1,7 +1,7 @@
 -- `of_sheet` meets its contract: the read decides 2, the counts 3 and 4, and the hours and the arcs all others.
-use mathlib.Core.Path.{◌≡◌, sym, ap, ap₂, refl, ◌∙◌}
+use mathlib.Core.Path.{sym, ap, ap₂, refl, ◌∙◌}
 use native.Mathlib.Omega.{arith}
-use lib.ListN.{length, take}
+use lib.ListN.{take}
 use lib.Seq.{length-take-le}
 use Rattle.relation.specs.Arcs.{pairs}
 use Rattle.analysis.specs.Outcome.{timed}

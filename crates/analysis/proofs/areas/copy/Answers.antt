@@ -1,5 +1,5 @@
 -- `areas::copy` meets its contract.
-use mathlib.Core.Path.{sym, ap₂, ap, ◌∙◌}
+use mathlib.Core.Path.{sym, ap₂, ap}
 use mathlib.Core.List.{◌++◌}
 use native.Mathlib.Omega.{arith}
 use lib.ListN.{drop}

@@ -1,7 +1,6 @@
 -- `limits::of_lists` meets its contract: the hours decide 12 and 13, the arcs one after the other 5 and 6, and the order all others.
-use mathlib.Core.Path.{◌≡◌, sym, ap, ◌∙◌}
-use Rattle.std.specs.Prelude.{None}
-use Rattle.relation.specs.Arcs.{pairs, place, outside, loop}
+use mathlib.Core.Path.{sym, ◌∙◌}
+use Rattle.relation.specs.Arcs.{pairs}
 use Rattle.relation.proofs.Chain.{outside_none}
 use Rattle.analysis.proofs.Crossing.{gives_same, gives_refusal, gives_err}
 use Rattle.analysis.proofs.Steps.{timed_listed, listed_5, listed_6, listed_order}

@@ -1,5 +1,5 @@
 -- `order::take_apart` meets its contract: what is written decides between 8 and the rest, and the rooms between 9, 10 and acceptance.
-use mathlib.Core.Path.{◌≡◌, ◌∙◌}
+use mathlib.Core.Path.{◌≡◌}
 use Rattle.std.specs.Prelude.{Some}
 use native.Mathlib.Omega.{arith}
 use Rattle.poset.specs.Tree.{Tree}
