@@ -15,27 +15,7 @@ use Rattle.analysis.specs.declared.answer.Answer.{Answer as Told}
 use Rattle.analysis.specs.declared.Accepted.{Accepted}
 use Rattle.analysis.specs.declared.Refusal.{Refusal}
 use Rattle.analysis.specs.declared.Refusal.TheVariants as refusal
-use Rattle.analysis.specs.declared.Verdict.{Verdict}
-use Rattle.analysis.specs.declared.Verdict.TheVariants as verdict
 use Rattle.analysis.specs.declared.Analysis.{Analysis}
-
--- the papers' number and places of an answer
-abbrev pub answer_of : Verdict → Answer
-answer_of (verdict.Accepted bytes arcs groups) = answer 0 bytes arcs groups 0
-answer_of verdict.Long = answer 1 0 0 0 0
-answer_of (verdict.Broken at) = answer 2 at 0 0 0
-answer_of verdict.Count = answer 3 0 0 0 0
-answer_of verdict.Many = answer 4 0 0 0 0
-answer_of (verdict.Outside i) = answer 5 i 0 0 0
-answer_of (verdict.Loop i) = answer 6 i 0 0 0
-answer_of (verdict.Cycle u) = answer 7 u 0 0 0
-answer_of (verdict.Crossed a b c d) = answer 8 a b c d
-answer_of verdict.RecordRoom = answer 9 0 0 0 0
-answer_of verdict.ArcRoom = answer 10 0 0 0 0
-answer_of verdict.NoRecord = answer 11 0 0 0 0
-answer_of verdict.HoursLength = answer 12 0 0 0 0
-answer_of (verdict.HoursLarge j) = answer 13 j 0 0 0
-answer_of verdict.NoJob = answer 14 0 0 0 0
 
 -- the answer that the code tells
 abbrev pub answer_told : Told → Answer
@@ -63,9 +43,9 @@ refusal_answer (refusal.HoursLarge j) = answer 13 j 0 0 0
 refusal_answer refusal.NoJob = answer 14 0 0 0 0
 
 -- of either
-abbrev pub result_answer : Result Accepted Refusal → Answer
-result_answer (Ok a) = accepted_answer a
-result_answer (Err r) = refusal_answer r
+abbrev pub answer_of : Result Accepted Refusal → Answer
+answer_of (Ok a) = accepted_answer a
+answer_of (Err r) = refusal_answer r
 
 -- what a refusal makes of a call: nothing is written, and there are no sequences and no hours
 abbrev pub refused : Refusal → Outcome

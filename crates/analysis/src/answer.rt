@@ -1,9 +1,9 @@
 //! An answer in the papers' numbers.
 ghost use Rattle.std.specs.Prelude.{◌≡◌};
 ghost use Rattle.analysis.specs.Answer.{answer};
-ghost use Rattle.analysis.specs.Result.{answer_of, answer_told, accepted_answer, refusal_answer, result_answer, analysis_answer};
+ghost use Rattle.analysis.specs.Result.{answer_told, accepted_answer, refusal_answer, answer_of, analysis_answer};
 
-use crate::{Accepted, Analysis, Refusal, Verdict};
+use crate::{Accepted, Analysis, Refusal};
 
 // The number, 0 for acceptance, and the four places; those that are not named are 0.
 #[derive(Clone, Copy)]
@@ -59,7 +59,7 @@ impl From<Refusal> for Answer {
 }
 
 impl From<Result<Accepted, Refusal>> for Answer {
-    ghost from_gives = { λ outcome told. answer_told told ≡ result_answer outcome };
+    ghost from_gives = { λ outcome told. answer_told told ≡ answer_of outcome };
 
     fn from(outcome: Result<Accepted, Refusal>) -> Answer {
         match outcome {
@@ -77,30 +77,6 @@ impl From<Result<Analysis, Refusal>> for Answer {
         match outcome {
             Ok(analysis) => Answer::from(analysis.accepted),
             Err(refusal) => Answer::from(refusal),
-        }
-    }
-}
-
-impl From<Verdict> for Answer {
-    ghost from_gives = { λ verdict told. answer_told told ≡ answer_of verdict };
-
-    fn from(verdict: Verdict) -> Answer {
-        match verdict {
-            Verdict::Accepted(bytes, arcs, groups) => told(0, bytes, arcs, groups, 0),
-            Verdict::Long => told(1, 0, 0, 0, 0),
-            Verdict::Broken(at) => told(2, at, 0, 0, 0),
-            Verdict::Count => told(3, 0, 0, 0, 0),
-            Verdict::Many => told(4, 0, 0, 0, 0),
-            Verdict::Outside(i) => told(5, i, 0, 0, 0),
-            Verdict::Loop(i) => told(6, i, 0, 0, 0),
-            Verdict::Cycle(u) => told(7, u, 0, 0, 0),
-            Verdict::Crossed(a, b, c, d) => told(8, a, b, c, d),
-            Verdict::RecordRoom => told(9, 0, 0, 0, 0),
-            Verdict::ArcRoom => told(10, 0, 0, 0, 0),
-            Verdict::NoRecord => told(11, 0, 0, 0, 0),
-            Verdict::HoursLength => told(12, 0, 0, 0, 0),
-            Verdict::HoursLarge(j) => told(13, j, 0, 0, 0),
-            Verdict::NoJob => told(14, 0, 0, 0, 0),
         }
     }
 }

@@ -17,7 +17,7 @@ use Rattle.writer.specs.declared.writing.Written.{Written}
 use Rattle.writer.proofs.Spelling.{bytes_count}
 use Rattle.analysis.specs.Answer.{answer}
 use Rattle.analysis.specs.Outcome.{roomy, Outcome, refuse, accept, decomposed}
-use Rattle.analysis.specs.Result.{refused, result_answer}
+use Rattle.analysis.specs.Result.{refused, answer_of}
 use Rattle.analysis.specs.declared.Accepted.{Accepted}
 use Rattle.analysis.specs.declared.Refusal.{Refusal}
 use Rattle.analysis.proofs.Crossing.{tree_outcome}
@@ -32,11 +32,11 @@ unfolding refuse
 told_refused e = same_answer (sym e)
 
 -- what a `?` hands back of a step that refuses
-pub told_err : {o : Outcome} (r : Result Accepted Refusal) (e : Refusal) → IsErrAnd r (λ y. y ≡ e) → o ≡ refused e → result_answer r ≡ o.verdict
+pub told_err : {o : Outcome} (r : Result Accepted Refusal) (e : Refusal) → IsErrAnd r (λ y. y ≡ e) → o ≡ refused e → answer_of r ≡ o.verdict
 unfolding refuse
 told_err r e is h =
     let p = err_from_is_err_and r is in
-    ap result_answer (p.1 ∙ ap Err p.2) ∙ same_answer (sym h)
+    ap answer_of (p.1 ∙ ap Err p.2) ∙ same_answer (sym h)
 
 -- an order that a tree means, and what is counted of its record and its reduction
 pub told_accepted

@@ -7,7 +7,7 @@ mod limits;
 mod order;
 
 ghost use Rattle.std.specs.Prelude.{◌≡◌};
-ghost use Rattle.analysis.specs.Result.{result_answer};
+ghost use Rattle.analysis.specs.Result.{answer_of};
 ghost use Rattle.preview.specs.Outcome.{previewed};
 
 use analysis::{Accepted, Refusal};
@@ -20,7 +20,7 @@ pub fn preview_order(
     first: u16,
     second: u16,
 ) -> Result<Accepted, Refusal>
-    ensures { result_answer result ≡ previewed count hours.now list.now first second }
+    ensures { answer_of result ≡ previewed count hours.now list.now first second }
 {
     if list.len() % 2 != 0 {
         return Err(Refusal::Broken(0));

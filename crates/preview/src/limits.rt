@@ -2,14 +2,14 @@
 ghost use Rattle.std.specs.Prelude.{◌≡◌, ◌++◌};
 ghost use Rattle.relation.specs.Arcs.{pairs};
 ghost use Rattle.analysis.specs.Outcome.{roomy, arc_outcome};
-ghost use Rattle.analysis.specs.Result.{result_answer};
+ghost use Rattle.analysis.specs.Result.{answer_of};
 
 use crate::{ends, order};
 use analysis::{Accepted, Refusal, limits};
 
 // A count, and so many arcs.
 pub fn of_count(n: u16, list: &[u16], last: &[u16], hours: &[u16]) -> Result<Accepted, Refusal>
-    ensures { result_answer result ≡ (arc_outcome roomy n hours.now (pairs list.now ++ pairs last.now)).verdict }
+    ensures { answer_of result ≡ (arc_outcome roomy n hours.now (pairs list.now ++ pairs last.now)).verdict }
 {
     limits::counts(n, list.len() / 2 + last.len() / 2)?;
     limits::hours(n, hours)?;

@@ -5,7 +5,7 @@ ghost use Rattle.relation.specs.Arcs.{pairs};
 ghost use Rattle.record.specs.Bits.{AllBelow};
 ghost use Rattle.record.specs.Layout.{hours_bits};
 ghost use Rattle.analysis.specs.Outcome.{roomy, ordered};
-ghost use Rattle.analysis.specs.Result.{result_answer};
+ghost use Rattle.analysis.specs.Result.{answer_of};
 
 use crate::ends;
 use analysis::{Accepted, Refusal, hours, order};
@@ -16,7 +16,7 @@ pub fn of_arcs(list: &[u16], last: &[u16], n: usize, hours: &[u16]) -> Result<Ac
     requires n_nonzero { (0 < n) × (n ≤ 128) }
     requires within { Within n (pairs list.now ++ pairs last.now) }
     requires hours_len { (length hours.now ≡ n) × AllBelow (2 ^ hours_bits) hours.now }
-    ensures { result_answer result ≡ (ordered roomy n hours.now (before n (pairs list.now ++ pairs last.now))).verdict }
+    ensures { answer_of result ≡ (ordered roomy n hours.now (before n (pairs list.now ++ pairs last.now))).verdict }
 {
     let after = order::closed(ends::table_of(list, last), n)?;
     let all = hours::padded(hours);
