@@ -36,8 +36,8 @@ fn filled(list: &[u16]) -> usize
     }
 }
 
-// Reads a sheet into lists with room for the hours of 128 jobs, and for two arcs and one number more. Prints the result,
-// the hours that were read, and the whole list of arcs.
+// Reads a sheet into lists with room for the hours of 128 jobs, and for two arcs and one number more. Prints the
+// result, the hours that were read, and the whole list of arcs.
 fn case(rt: &impl Print, name: &[u8], s: &[u8]) -> io::Result<()> {
     let mut hours = [BARE; 128];
     let mut list = [9u16; 5];
