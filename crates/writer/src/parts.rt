@@ -15,11 +15,8 @@ fn mark_each(jobs: JobSet, number: u8, numbers: &mut [u8; 128])
     ensures { Marked (has jobs) number numbers.old numbers.new }
 {
     let mut rest = jobs;
-    while rest.inhabited() {
-        let y = rest.smallest();
+    while let Some(y) = rest.pop_first() {
         numbers[y] = number;
-        let others = rest.without_smallest();
-        rest = others;
     }
 }
 
@@ -50,6 +47,7 @@ fn part_of(near: &[JobSet; 128], s: Block, x: usize, number: u8, numbers: &mut [
                 size,
             };
         }
+        // Not by pop_first, with which a series of 128 jobs takes 9 % longer.
         let y = todo.smallest();
         numbers[y] = number;
         size += 1;

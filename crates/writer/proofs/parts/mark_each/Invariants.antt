@@ -4,8 +4,8 @@ use Rattle.relation.specs.Table.{members}
 use Rattle.writer.proofs.Numbering.{Marking}
 use Rattle.writer.proofs.parts.mark_each.Given as goal
 
-abbrev pub invariant-loop-rest : goal.invariant-loop-rest
-invariant-loop-rest l = Marking l.initial.rest l.rest l.number l.initial.numbers l.numbers
+abbrev pub invariant-loop-y : goal.invariant-loop-y
+invariant-loop-y l = Marking l.initial.rest l.rest l.number l.initial.numbers l.numbers
 
-abbrev pub decreases-loop-rest : goal.decreases-loop-rest
-decreases-loop-rest l = length (members l.rest)
+abbrev pub decreases-loop-y : goal.decreases-loop-y
+decreases-loop-y l = length (members l.rest)
