@@ -56,7 +56,9 @@ pub fn written(after: [JobSet; 128], n: usize, hours: &[u16; 128]) -> Result<Wri
     }
 }
 
-// A strict order: its record and its reduced orders, each written once both are known to fit.
+// A strict order: its record and its reduced orders, each written once both are known to fit. n and the hours stay
+// apart: the functions of `relation` and `writer` take n alone, so that a type of both would be taken apart at each
+// call, and be no plainer.
 fn take_apart(
     after: [JobSet; 128],
     n: usize,

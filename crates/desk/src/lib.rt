@@ -17,6 +17,8 @@ ghost use Rattle.desk.specs.Told.{Told, RunTold, GangsTold, ReasonTold};
 
 use analysis::answer::Answer;
 
+// Numbers go to C by `as`: std has no `From` of `usize` for `u64`.
+
 // Acceptance as a number, where no record is written: its places are 0.
 const ACCEPTED: u64 = 0;
 

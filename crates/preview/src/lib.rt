@@ -12,7 +12,8 @@ ghost use Rattle.preview.specs.Outcome.{previewed};
 
 use analysis::{Accepted, Refusal};
 
-// The answer of the analysis of the list with the order at its end, areas long enough. The list is not copied, and no area is written.
+// The answer of the analysis of the list with the order at its end, areas long enough. The list is not copied, and no
+// area is written.
 pub fn preview_order(
     count: u16,
     list: &[u16],

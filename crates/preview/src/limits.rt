@@ -7,7 +7,8 @@ ghost use Rattle.analysis.specs.Result.{answer_of};
 use crate::{ends, order};
 use analysis::{Accepted, Refusal, limits};
 
-// A count, and so many arcs.
+// A count, and so many arcs. What `analysis::limits::of_lists` tests of one list stands here once more for two: a
+// function for both would take the two searches and what comes after them as closures, which is no plainer.
 pub fn of_count(n: u16, list: &[u16], last: &[u16], hours: &[u16]) -> Result<Accepted, Refusal>
     ensures { answer_of result ≡ (arc_outcome roomy n hours.now (pairs list.now ++ pairs last.now)).verdict }
 {

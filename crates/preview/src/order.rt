@@ -11,7 +11,8 @@ use crate::ends;
 use analysis::{Accepted, Refusal, hours, order};
 use relation::reduction;
 
-// The order of arcs that name jobs below n alone: its first circle or N, or how much its record and its reduced orders take.
+// The order of arcs that name jobs below n alone: its first circle or N, or how much its record and its reduced orders
+// take.
 pub fn of_arcs(list: &[u16], last: &[u16], n: usize, hours: &[u16]) -> Result<Accepted, Refusal>
     requires n_nonzero { (0 < n) × (n ≤ 128) }
     requires within { Within n (pairs list.now ++ pairs last.now) }
