@@ -65,16 +65,16 @@ fn part_of(near: &[JobSet; 128], s: Block, x: usize, number: u8, numbers: &mut [
 
 // A job of s that no job of s is before. From the smallest job down by the largest ahead of it: few steps where the
 // jobs are numbered forwards or backwards.
-fn first_of(order: &Compared, s: JobSet) -> usize
-    requires jobs { Jobs s }
-    requires below_value { exists (has s) (below 128) ≡ true }
+fn first_of(order: &Compared, s: Block) -> usize
+    requires { exists (has s) (below 128) ≡ true }
     ensures { First (holds order.now.under.now) s result }
 {
-    let mut x = s.smallest();
-    let mut ahead = order.under[x].intersection(s);
+    let all = s.jobs;
+    let mut x = all.smallest();
+    let mut ahead = order.under[x].intersection(all);
     while ahead.inhabited() {
         let y = ahead.largest();
-        let fewer = order.under[y].intersection(s);
+        let fewer = order.under[y].intersection(all);
         x = y;
         ahead = fewer;
     }
@@ -82,15 +82,14 @@ fn first_of(order: &Compared, s: JobSet) -> usize
 }
 
 // Where the next part starts.
-fn start_of(order: &Compared, series: bool, s: JobSet) -> usize
-    requires jobs { Jobs s }
-    requires below_value { exists (has s) (below 128) ≡ true }
+fn start_of(order: &Compared, series: bool, s: Block) -> usize
+    requires { exists (has s) (below 128) ≡ true }
     ensures { StartsAt (holds order.now.under.now) series s result }
 {
     if series {
         first_of(order, s)
     } else {
-        s.smallest()
+        s.jobs.smallest()
     }
 }
 
@@ -110,7 +109,7 @@ impl Parts {
         let mut left = s;
         let mut count = 0;
         while left.jobs.inhabited() {
-            let x = start_of(order, series, left.jobs);
+            let x = start_of(order, series, left);
             let part = part_of(near, left, x, (count % 256) as u8, &mut self.numbers);
             self.list[count] = part;
             left = left.without(part);

@@ -40,7 +40,8 @@ fn repeated(
     sum
 }
 
-// The record of the arcs' order, each of the n jobs with n hours, written so many times over: its bytes in all. At most a million rounds, and one job at least.
+// The record of the arcs' order, each of the n jobs with n hours, written so many times over: its bytes in all. At most
+// a million rounds, and one job at least.
 #[unsafe(no_mangle)]
 pub extern "C" fn bench_write(arcs: &[u16], n: u16, rounds: usize) -> usize
     ensures { result ≡ bytes_written rounds n (pairs arcs.now) }

@@ -1,6 +1,8 @@
 -- `parts::start_of`: by the kind of group.
 use mathlib.Core.Path.{sym, subst}
-use Rattle.relation.specs.Table.{holds}
+use Prim.Native.Nat.{ℕ}
+use mathlib.Core.List.{List}
+use Rattle.relation.specs.Table.{Least, holds}
 use Rattle.writer.specs.Parts.{StartsAt}
 use Rattle.writer.proofs.parts.start_of.Goals as goal
 
@@ -10,4 +12,5 @@ returns-then-series c =
 
 pub returns-else-series : goal.returns-else-series
 returns-else-series c =
-    subst (λ b. StartsAt (holds c.args.order.now.under.now) b c.args.s c.smallest.result) (sym c.if-series.false) c.smallest.ensures
+    subst (λ b. StartsAt (holds c.args.order.now.under.now) b c.args.s c.smallest.result) (sym c.if-series.false)
+    (subst (λ (s : List ℕ). Least s c.smallest.result) c.s.view_is c.smallest.ensures)

@@ -15,7 +15,7 @@ use Rattle.writer.proofs.parts.Parts.split.Goals as goal
 -- something is left
 module _ (q : After-start_of-x) where
   starts : StartsAt (holds q.args.order.now.under.now) q.args.series q.loop-left.left q.start_of-x.result
-  starts = subst (λ (s : List ℕ). StartsAt (holds q.args.order.now.under.now) q.args.series s q.start_of-x.result) q.left.view_is q.start_of-x.ensures
+  starts = q.start_of-x.ensures
 
   -- there is room for a part of it
   room : q.loop-left.count < 128
