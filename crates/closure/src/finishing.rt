@@ -67,7 +67,8 @@ fn finish(
 }
 
 // The rows of a job that is left and of all that it leads to, if no cycle is met. A job waits on a stack until the rows of all that its arcs
-// lead to are finished; an arc to itself or to a job on the stack is part of a cycle. Whether none is met; `left` then has the jobs still left.
+// lead to are finished; an arc to itself or to a job on the stack is part of a cycle. Whether none is met; `left` then has the jobs still left:
+// in an Option they make the closure up to an eighth slower.
 fn follow(
     t: &[JobSet; 128],
     made: &mut [JobSet; 128],
@@ -102,8 +103,7 @@ fn follow(
             depth += 1;
             at = next.largest();
         } else {
-            let others = finish(t, made, jobs, at, joins);
-            jobs = others;
+            jobs = finish(t, made, jobs, at, joins);
             if depth == 0 {
                 *left = jobs;
                 return true;

@@ -93,8 +93,7 @@ fn range(t: &[JobSet; 128], n: usize) -> JobSet
 {
     let mut jobs = JobSet::EMPTY;
     for u in 0..n {
-        let more = jobs.union(t[u]);
-        jobs = more;
+        jobs = jobs.union(t[u]);
     }
     jobs
 }
@@ -114,8 +113,7 @@ pub fn passed(t: &[JobSet; 128], n: usize, joins: &mut usize) -> [JobSet; 128]
     let mut count = 0;
     for k in 0..n {
         if reached.contains(k) {
-            let more = pass(&mut low, &mut high, k, n);
-            count += more;
+            count += pass(&mut low, &mut high, k, n);
         }
     }
     *joins = count;

@@ -30,7 +30,8 @@ pub fn domain(t: &[JobSet; 128], n: usize) -> JobSet
     JobSet::from_words([inhabited_rows(t, 0, half), inhabited_rows(t, half, n)])
 }
 
-// The jobs that are after some job after u. Nothing is added by a job outside the domain, nor by one that is found already.
+// The jobs that are after some job after u. Nothing is added by a job outside the domain, nor by one that is found already. No loop over the
+// members: a step takes the first and the last, and leaves out what both have found.
 fn beyond(t: &[JobSet; 128], dom: JobSet, u: usize, n: usize) -> JobSet
     requires n_bound { (n ≤ 128) × (u < n) }
     requires strict { Strict n (holds t.now) }
@@ -44,9 +45,8 @@ fn beyond(t: &[JobSet; 128], dom: JobSet, u: usize, n: usize) -> JobSet
         let w = rest.smallest();
         let x = rest.largest();
         let joined = far.union(t[w]).union(t[x]);
-        let others = rest.without_smallest().difference(joined);
+        rest = rest.without_smallest().difference(joined);
         far = joined;
-        rest = others;
     }
     far
 }
@@ -115,7 +115,6 @@ pub fn write_pairs(t: &[JobSet; 128], n: usize, area: &mut [u8])
 {
     let mut at = 0;
     for u in 0..n {
-        let next = write_row(u, t[u], at, area);
-        at = next;
+        at = write_row(u, t[u], at, area);
     }
 }

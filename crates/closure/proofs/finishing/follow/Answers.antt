@@ -72,12 +72,12 @@ loop-more-preserved-then-inhabited c =
     (sym c.inhabited-then-inhabited.ensures ∙ c.if-inhabited-2.false) c.largest-at.result c.largest-at.ensures
 
 -- none does: the row is finished
-pub finish-others-requires : goal.finish-others-requires
+pub finish-jobs-requires : goal.finish-jobs-requires
 unfolding holds
-finish-others-requires c =
+finish-jobs-requires c =
     let v = c.loop-more.invariant in
     let start = c.requires.by_index in
-    let row = row_read c.args.t.now c.loop-more.at c.index-t-at.result (omega (arith, at_row (goal.at.finish-others-requires c).At-loop-more)) in
+    let row = row_read c.args.t.now c.loop-more.at c.index-t-at.result (omega (arith, at_row (goal.at.finish-jobs-requires c).At-loop-more)) in
     record {
       made_len = v.size;
       at_value = search_here start v;
@@ -90,7 +90,7 @@ pub returns-then-depth-eq0 : goal.returns-then-depth-eq0
 returns-then-depth-eq0 c =
     let v = c.loop-more.invariant in
     let start = c.requires.by_index in
-    let e = c.finish-others.ensures in
+    let e = c.finish-jobs.ensures in
     record {
       made_len_2 = (e.made_len_2, v.way.size);
       cyclic = λ h. absurd (clash refl h);
@@ -106,9 +106,9 @@ overflow_cast-at c = omega (arith, search_job c.requires.by_index c.loop-more.in
 
 pub loop-more-smaller : goal.loop-more-smaller
 loop-more-smaller c =
-    leave_less c.requires.by_index c.loop-more.invariant _ c.finish-others.ensures.by_index_3 (c.loop-more.depth - 1) (omega arith)
+    leave_less c.requires.by_index c.loop-more.invariant _ c.finish-jobs.ensures.by_index_3 (c.loop-more.depth - 1) (omega arith)
 
 pub loop-more-preserved : goal.loop-more-preserved
 loop-more-preserved c =
-    let e = c.finish-others.ensures in
+    let e = c.finish-jobs.ensures in
     search_pop c.requires.by_index c.loop-more.invariant _ e.by_index_3 _ e.made_len_2 _ e.by_index_4 (c.loop-more.depth - 1) (omega arith)

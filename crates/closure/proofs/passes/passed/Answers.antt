@@ -26,11 +26,11 @@ loop-k-init c = closed_none _ _ _ c.split.ensures.low_len
 inside : (d : goal.After-split) (u v : ℕ) → columns d.split.new.low d.split.new.high u v ≡ true → (u < d.args.n) × (v < d.args.n)
 inside d u v e = d.requires.inside u v (sym (d.split.ensures.by_index_2 u v) ∙ e)
 
-pub pass-more-requires : goal.pass-more-requires
-pass-more-requires c =
+pub pass-count-requires : goal.pass-count-requires
+pass-count-requires c =
     let l = c.loop-k in record {
       n_bound = (search rules, search rules, l.invariant.rows.0, l.invariant.rows.1);
-      by_index = closed_inside _ _ l.low l.high l.count l.k l.invariant (inside (goal.at.pass-more-requires c).After-split);
+      by_index = closed_inside _ _ l.low l.high l.count l.k l.invariant (inside (goal.at.pass-count-requires c).After-split);
     }
 
 pub overflow_add-count : goal.overflow_add-count
@@ -40,7 +40,7 @@ overflow_add-count c =
     omega (
       arith,
       closed_small _ n l.low l.high l.count l.k l.invariant (search rules),
-      c.pass-more.ensures.value,
+      c.pass-count.ensures.value,
       joins_small n (columns l.low l.high) l.k,
     )
 
@@ -51,7 +51,7 @@ loop-k-preserved c =
     let r = columns c.split.new.low c.split.new.high in
     elim c.if-contains.branch [
       | then-contains w ↦
-          let e = w.pass-more.ensures in
+          let e = w.pass-count.ensures in
           rw (w.low-is, w.high-is, w.count-is)
           (closed_next r n l.low l.high l.count l.k l.invariant (search rules) _ _ e.low_len e.by_index_2 _ e.value)
       | else-contains w ↦

@@ -13,7 +13,7 @@ unfolding holds
 loop-u-preserved c =
     let l = c.loop-u in
     let row = row_read c.args.t.now l.u c.index-t-u.result (search rules) in
-    ranged_next (holds c.args.t.now) c.args.n l.jobs l.u l.invariant (search rules) c.union-more.result (rw row at c.union-more.ensures)
+    ranged_next (holds c.args.t.now) c.args.n l.jobs l.u l.invariant (search rules) c.union-jobs.result (rw row at c.union-jobs.ensures)
 
 pub returns : goal.returns
 returns c =

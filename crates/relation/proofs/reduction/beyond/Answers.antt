@@ -25,7 +25,7 @@ without_smallest-requires c =
 
 pub loop-rest-smaller : goal.loop-rest-smaller
 loop-rest-smaller c =
-    swept_less c.loop-rest.rest _ _ _ _ c.smallest-w.ensures c.without_smallest.ensures c.difference-others.ensures
+    swept_less c.loop-rest.rest _ _ _ _ c.smallest-w.ensures c.without_smallest.ensures c.difference-rest.ensures
 
 pub loop-rest-preserved : goal.loop-rest-preserved
 unfolding holds
@@ -36,7 +36,7 @@ loop-rest-preserved c =
     let x = row_read t c.largest-x.result c.index-t-x.result (search rules) in
     swept_next c.args.n (holds c.args.t.now) c.args.u c.requires.strict c.requires.inside l.far l.rest l.invariant _ _
     c.smallest-w.ensures c.largest-x.ensures.member _ _ _ _ (rw w at c.union.ensures) (rw x at c.union-joined.ensures)
-    c.without_smallest.ensures c.difference-others.ensures
+    c.without_smallest.ensures c.difference-rest.ensures
 
 pub returns : goal.returns
 returns c =

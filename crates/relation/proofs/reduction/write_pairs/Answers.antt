@@ -7,8 +7,8 @@ use Rattle.relation.proofs.reduction.write_pairs.Goals as goal
 pub loop-u-init : goal.loop-u-init
 loop-u-init c = laid_none c.args.t.now c.args.n c.args.area.now
 
-pub write_row-next-requires : goal.write_row-next-requires
-write_row-next-requires c =
+pub write_row-at-requires : goal.write_row-at-requires
+write_row-at-requires c =
     let l = c.loop-u in
     let e = row_read c.args.t.now l.u c.index-t-u.result (search rules) in (
       search rules,
@@ -21,7 +21,7 @@ loop-u-preserved c =
     let l = c.loop-u in
     let e = row_read c.args.t.now l.u c.index-t-u.result (search rules) in
     Laid-next c.args.t.now c.args.n c.args.area.now l.area l.at l.u l.invariant c.requires.n_bound c.requires.inside c.loop-u-test.true _ _
-    (rw e at c.write_row-next.ensures.value) (rw e at c.write_row-next.ensures.area_after)
+    (rw e at c.write_row-at.ensures.value) (rw e at c.write_row-at.ensures.area_after)
 
 pub shape_of-area : goal.shape_of-area
 shape_of-area c = c.loop-u.invariant.size
