@@ -18,8 +18,7 @@ use Rattle.record.proofs.Tokens.{tokens_length}
 use Rattle.record.proofs.Entries.{entry_padded}
 use Rattle.reader.specs.Nodes.{Listed}
 use Rattle.gangs.specs.Gangs.{gang_count}
-use Rattle.gangs.specs.Places.{no_group, to_come, At, begins, ended, is_leaf, Written, Ready, AllNumbered}
-use Rattle.gangs.specs.declared.numbering.Numbering.{Numbering}
+use Rattle.gangs.specs.Places.{Taken, no_group, to_come, At, begins, ended, is_leaf, Written, Ready, AllNumbered}
 
 -- the leaves among a tree's nodes
 
@@ -49,7 +48,7 @@ mutual
 
 module _ (t : Tree) (list : List ℕ) (count : ℕ) (l : Listed t list count) (jobs : List ℕ) where
   -- the node at i, and those after it
-  pub ready_node : (w : Numbering) (i : ℕ) → i < count → (x : ℕ) → x ≡ get_or list i 0
+  pub ready_node : (w : Taken) (i : ℕ) → i < count → (x : ℕ) → x ≡ get_or list i 0
       → Ready t jobs w (drop i (tokens t)) → Ready t jobs w (x ∷ drop (i + 1) (tokens t))
   ready_node w i inside x is =
       let one : suc i ≡ i + 1 = omega arith in
@@ -99,7 +98,7 @@ module _ (t : Tree) (list : List ℕ) (count : ℕ) (l : Listed t list count) (j
       }
 
   -- all nodes are taken
-  pub ready_last : (w : Numbering) (i : ℕ) → count ≤ i → Ready t jobs w (drop i (tokens t))
+  pub ready_last : (w : Taken) (i : ℕ) → count ≤ i → Ready t jobs w (drop i (tokens t))
       → AllNumbered t jobs w.groups.present.end w.gangs w.hours
   ready_last w i past r =
       record { count_is = go r.at; written = subst (λ (xs : List ℕ). Written t jobs xs w.gangs w.hours) none r.written }

@@ -13,10 +13,9 @@ use Rattle.record.specs.Tokens.{tokens, Small}
 use Rattle.record.proofs.Sizes.{small_left, small_right, trees_length}
 use Rattle.record.proofs.Tokens.{children_few}
 use Rattle.gangs.specs.Gangs.{joined_gangs, gangs_from, gang_count, forest_gang_count, gang, forest_gang}
-use Rattle.gangs.specs.Places.{Open, kind_of, start_of, Numbers, Rest, Around, no_group, Holds, AllHeld, to_come, groups_to_come}
+use Rattle.gangs.specs.Places.{Groups, Open, kind_of, start_of, Numbers, Rest, Around, no_group, Holds, AllHeld, to_come, groups_to_come}
 use Rattle.gangs.specs.Places.{InGroup, Done, Begun, At, begins, ended, NextChild, Outer}
 use Rattle.gangs.specs.declared.numbering.Group.{Group}
-use Rattle.gangs.specs.declared.numbering.Groups.{Groups}
 use Rattle.gangs.proofs.Fewest.{gang_left, gang_right}
 
 -- the groups of a forest, tree by tree

@@ -21,10 +21,8 @@ use Rattle.record.proofs.Entries.{hours_most}
 use Rattle.record.proofs.Sizes.{kind_below}
 use Rattle.reader.proofs.Pending.{trees_tokens}
 use Rattle.gangs.specs.Gangs.{gang}
-use Rattle.gangs.specs.Places.{Open, kind_of, to_come, Done, Begun, At, begins, ended, is_leaf, load_of, Written, Ready}
+use Rattle.gangs.specs.Places.{Groups, Taken, Open, kind_of, to_come, Done, Begun, At, begins, ended, is_leaf, load_of, Written, Ready}
 use Rattle.gangs.specs.declared.numbering.Group.{Group}
-use Rattle.gangs.specs.declared.numbering.Groups.{Groups}
-use Rattle.gangs.specs.declared.numbering.Numbering.{Numbering}
 use Rattle.gangs.proofs.Fewest.{gang_below, count_short, loads_most}
 use Rattle.gangs.proofs.Placing.{leaf_done, room, within, few_children, group_begins}
 
@@ -165,7 +163,7 @@ kind_is token series parallel m few e i = absurd (omega arith)
 kind_is token parallel series m few e i = absurd (omega arith)
 kind_is token parallel parallel m few e i = refl
 
-module _ (t : Tree) (jobs : List ℕ) (low : AllBelow (2 ^ hours_bits) jobs) (w : Numbering) (token : ℕ) (xs : List ℕ)
+module _ (t : Tree) (jobs : List ℕ) (low : AllBelow (2 ^ hours_bits) jobs) (w : Taken) (token : ℕ) (xs : List ℕ)
     (ready : Ready t jobs w (token ∷ xs)) where
   abbrev at : ℕ
   at = w.groups.present.at

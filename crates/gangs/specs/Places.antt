@@ -8,10 +8,10 @@ use Rattle.record.specs.Layout.{hours_of}
 use Rattle.record.specs.Tokens.{tokens, Small}
 use Rattle.gangs.specs.Gangs.{gang_count, gang}
 use Rattle.gangs.specs.declared.numbering.Group.{Group}
-use Rattle.gangs.specs.declared.numbering.Groups.{Groups}
 use Rattle.gangs.specs.declared.numbering.Kind as declared
 use Rattle.gangs.specs.declared.numbering.Kind.TheVariants as kind
 use Rattle.gangs.specs.declared.numbering.Numbering.{Numbering}
+use Rattle.gangs.specs.declared.numbering.OuterGroups.{OuterGroups}
 
 -- a group that is begun: its kind, the first gang of its present child, one past the last gang of its children so far, and the children to come
 pub record Open : Type 0 where
@@ -69,6 +69,15 @@ to_come = flat_map (λ o. flat_map tokens o.rest)
 
 abbrev pub groups_to_come : List Open → ℕ
 groups_to_come = sum (λ o. sum groups o.rest)
+
+-- the open groups of the code: the present one, and those around it
+pub record Groups : Type 0 where
+  pub present : Group
+  pub depth : ℕ
+  pub around : List Group
+
+abbrev pub open_groups : Group → OuterGroups → Groups
+open_groups g a = record { present = g; depth = a.depth; around = a.groups }
 
 -- the present group is o, and os are around it
 pub record InGroup (w : Groups) (o : Open) (os : List Open) : Type 0 where
@@ -128,14 +137,23 @@ pub record Written (t : Tree) (jobs xs gangs hours : List ℕ) : Type 0 where
   pub others : (u : ℕ) → (Memᴰ u seen → ⊥) → get_or gangs u 0 ≡ 0
   pub loads : (g : ℕ) → get_or hours g 0 ≡ sum (load_of t jobs g) seen
 
+-- the open groups of the code, and what it has written
+pub record Taken : Type 0 where
+  pub groups : Groups
+  pub gangs : List ℕ
+  pub hours : List ℕ
+
+abbrev pub taken : Group → Numbering → Taken
+taken g n = record { groups = open_groups g n.outer; gangs = n.gangs; hours = n.hours }
+
 -- where the nodes xs are to come: the open groups, and what is written
-pub record Ready (t : Tree) (jobs : List ℕ) (w : Numbering) (xs : List ℕ) : Type 0 where
+pub record Ready (t : Tree) (jobs : List ℕ) (w : Taken) (xs : List ℕ) : Type 0 where
   pub small : Small (leaves t)
   pub at : At t w.groups xs
   pub written : Written t jobs xs w.gangs w.hours
 
 -- what is to hold after the node of a token: what held ahead of it
-abbrev pub Takes : (token : ℕ) (jobs : List ℕ) → Numbering → Numbering → Type 0
+abbrev pub Takes : (token : ℕ) (jobs : List ℕ) → Taken → Taken → Type 0
 Takes token jobs w v = (t : Tree) (xs : List ℕ) → Ready t jobs w (token ∷ xs) → Ready t jobs v xs
 
 -- so many gangs, and all leaves are written

@@ -23,12 +23,5 @@ pub fn fewest_gangs(bytes: &[u8]) -> Result<GangPlan, Refusal>
     let Some(read) = reader::read_nodes(bytes) else {
         return Err(Refusal::NoRecord);
     };
-    let numbering = numbering::Numbering::of(&read.tokens[..read.count], &read.hours);
-    let hours = numbering.hours;
-    let gangs = numbering.gangs;
-    Ok(GangPlan {
-        count: numbering.count(),
-        hours,
-        gangs,
-    })
+    Ok(numbering::numbered(&read.tokens[..read.count], &read.hours))
 }

@@ -4,7 +4,9 @@ ghost use Rattle.poset.specs.Tree.{Tree};
 ghost use Rattle.record.specs.Bits.{AllBelow};
 ghost use Rattle.record.specs.Layout.{hours_bits};
 ghost use Rattle.reader.specs.Nodes.{Listed};
-ghost use Rattle.gangs.specs.Places.{Open, NextChild, Outer, to_come, Done, At, Ready, Takes, AllNumbered};
+ghost use Rattle.gangs.specs.Places.{Open, open_groups, taken, NextChild, Outer, to_come, Done, At, Ready, Takes, AllNumbered};
+
+use crate::GangPlan;
 
 // How the children of a group stand: one after the other, or beside each other.
 #[derive(Clone, Copy)]
@@ -41,107 +43,109 @@ impl Group {
     }
 }
 
-// The open groups: the present one, how many stand around it, and these, the outermost first, in a list of a fixed
-// length, since nothing is on the heap.
+// The open groups around the present one, the outermost first, and how many there are: a list of a fixed length, since nothing is on the heap. The
+// present one goes by value.
 #[derive(Clone, Copy)]
-pub struct Groups {
-    present: Group,
+pub struct OuterGroups {
     depth: usize,
-    around: [Group; 128],
+    groups: [Group; 128],
 }
 
-impl Groups {
+impl OuterGroups {
     // Out of the present group, which is done, into the one around it.
-    fn leave(&mut self)
+    fn leave(&mut self, present: Group) -> Group
         requires { (0 < self.old.depth) × (self.old.depth ≤ 128) }
-        ensures { Outer self.old self.new }
+        ensures { Outer (open_groups present self.old) (open_groups result self.new) }
     {
-        let end = self.present.end;
         self.depth -= 1;
-        self.present = self.around[self.depth];
-        self.present.end = self.present.end.max(end);
+        let outer = self.groups[self.depth];
+        Group {
+            end: outer.end.max(present.end),
+            ..outer
+        }
     }
 
     // On to the next child of the present group, or of the nearest around it that has one to come.
-    fn go_on(&mut self)
-        requires { (t : Tree) × (o : Open) × (os : List Open) × Done t self.old o os }
-        ensures { (t : Tree) (o : Open) (os : List Open) → Done t self.old o os → At t self.new (to_come (o ∷ os)) }
+    fn go_on(&mut self, present: Group) -> Group
+        requires { (t : Tree) × (o : Open) × (os : List Open) × Done t (open_groups present self.old) o os }
+        ensures { (t : Tree) (o : Open) (os : List Open) → Done t (open_groups present self.old) o os
+            → At t (open_groups result self.new) (to_come (o ∷ os)) }
     {
-        while self.present.coming == 0 {
+        let mut here = present;
+        while here.coming == 0 {
             if self.depth == 0 {
-                return;
+                return here;
             }
-            self.leave();
+            here = self.leave(here);
         }
-        self.present = self.present.next_child();
+        here.next_child()
     }
 }
 
-// The open groups, and what is written of the jobs so far: the gang of each job, and the hours of each gang.
+// The open groups around the present one, and what is written of the jobs so far: the gang of each job, and the hours of each gang.
 #[derive(Clone, Copy)]
 pub struct Numbering {
-    groups: Groups,
-    pub gangs: [u8; 128],
-    pub hours: [u32; 128],
+    outer: OuterGroups,
+    gangs: [u8; 128],
+    hours: [u32; 128],
 }
 
 impl Numbering {
-    // One node more, by its token, a number as `Listed` has it: a leaf's job gets the gang of its place, a group is
-    // opened.
-    fn take(&mut self, token: usize, jobs: &[u16; 128])
-        requires { AllBelow (2 ^ hours_bits) jobs.now × ((t : Tree) × (xs : List ℕ) × Ready t jobs.now self.old (token ∷ xs)) }
-        ensures { Takes token jobs.now self.old self.new }
+    // One node more, by its token, a number as `Listed` has it: a leaf's job gets the gang of its place, a group is opened. The present group after it.
+    fn take(&mut self, token: usize, jobs: &[u16; 128], present: Group) -> Group
+        requires { AllBelow (2 ^ hours_bits) jobs.now × ((t : Tree) × (xs : List ℕ) × Ready t jobs.now (taken present self.old) (token ∷ xs)) }
+        ensures { Takes token jobs.now (taken present self.old) (taken result self.new) }
     {
-        let at = self.groups.present.at;
+        let at = present.at;
         if token < 256 {
             self.gangs[token] = at;
             self.hours[usize::from(at)] += u32::from(jobs[token]);
-            self.groups.present.end = self.groups.present.end.max(at + 1);
-            self.groups.go_on();
-            return;
+            let done = Group {
+                end: present.end.max(at + 1),
+                ..present
+            };
+            return self.outer.go_on(done);
         }
-        self.groups.around[self.groups.depth] = self.groups.present;
-        self.groups.depth += 1;
-        self.groups.present = Group {
+        self.outer.groups[self.outer.depth] = present;
+        self.outer.depth += 1;
+        Group {
             kind: if token < 384 { Kind::Chain } else { Kind::Side },
             coming: (token % 128) as u8,
             at,
             end: at,
-        };
-    }
-
-    // Of the tree whose nodes these are.
-    pub fn of(nodes: &[u16], jobs: &[u16; 128]) -> Numbering
-        requires { AllBelow (2 ^ hours_bits) jobs.now × ((t : Tree) × Listed t nodes.now (length nodes.now)) }
-        ensures { (t : Tree) → Listed t nodes.now (length nodes.now)
-            → AllNumbered t jobs.now result.groups.present.end result.gangs result.hours }
-    {
-        // around the whole tree: a chain with no child to come
-        let whole = Group {
-            kind: Kind::Chain,
-            coming: 0,
-            at: 0,
-            end: 0,
-        };
-        let mut numbering = Numbering {
-            groups: Groups {
-                present: whole,
-                depth: 0,
-                around: [whole; 128],
-            },
-            gangs: [0; 128],
-            hours: [0; 128],
-        };
-        for token in nodes {
-            numbering.take(usize::from(*token), jobs);
         }
-        numbering
     }
+}
 
-    // How many gangs there are.
-    pub fn count(&self) -> usize
-        ensures { result ≡ self.now.groups.present.end }
-    {
-        usize::from(self.groups.present.end)
+// The gangs of the tree whose nodes these are.
+pub fn numbered(nodes: &[u16], jobs: &[u16; 128]) -> GangPlan
+    requires { AllBelow (2 ^ hours_bits) jobs.now × ((t : Tree) × Listed t nodes.now (length nodes.now)) }
+    ensures { (t : Tree) → Listed t nodes.now (length nodes.now)
+        → AllNumbered t jobs.now result.count result.gangs result.hours }
+{
+    // around the whole tree: a chain with no child to come
+    let mut present = Group {
+        kind: Kind::Chain,
+        coming: 0,
+        at: 0,
+        end: 0,
+    };
+    let mut numbering = Numbering {
+        outer: OuterGroups {
+            depth: 0,
+            groups: [present; 128],
+        },
+        gangs: [0; 128],
+        hours: [0; 128],
+    };
+    for token in nodes {
+        present = numbering.take(usize::from(*token), jobs, present);
+    }
+    let hours = numbering.hours;
+    let gangs = numbering.gangs;
+    GangPlan {
+        count: usize::from(present.end),
+        hours,
+        gangs,
     }
 }

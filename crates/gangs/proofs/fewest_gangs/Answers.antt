@@ -14,12 +14,12 @@ read_tree_lem c =
 pub returns-in_default : goal.returns-in_default
 returns-in_default c = shows_11 _ (undecoded _ c.in_default.ensures)
 
-pub of-numbering-requires : goal.of-numbering-requires
-of-numbering-requires c =
-    let d = read_tree_lem (goal.at.of-numbering-requires c).In-Some in
+pub numbered-requires : goal.numbered-requires
+numbered-requires c =
+    let d = read_tree_lem (goal.at.numbered-requires c).In-Some in
     (hours_low d, (d.tree, listed_part (listed d)))
 
 pub returns : goal.returns
 returns c =
     let d = read_tree_lem (goal.at.returns c).In-Some in
-    shows_gangs d (rw c.count.ensures (c.of-numbering.ensures d.tree (listed_part (listed d))))
+    shows_gangs d (c.numbered.ensures d.tree (listed_part (listed d)))

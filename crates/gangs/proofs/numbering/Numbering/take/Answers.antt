@@ -8,7 +8,7 @@ use Rattle.gangs.proofs.numbering.Numbering.take.Goals.{Then-token-lt256, then-t
 use Rattle.gangs.proofs.numbering.Numbering.take.Goals as goal
 
 -- a leaf's gang, and its job
-leaf-low : (c : goal.Then-token-lt256) → (c.args.self.now.groups.present.at < 128) × (c.args.token < 128)
+leaf-low : (c : goal.Then-token-lt256) → (c.args.present.at < 128) × (c.args.token < 128)
 leaf-low c =
     let (t, xs, ready) = c.requires.1 in
     (gang_low t _ c.requires.0 _ _ xs ready c.if-token-lt256.true, job_low t _ c.requires.0 _ _ xs ready c.if-token-lt256.true)
@@ -38,20 +38,20 @@ overflow_add-at c = omega (arith, leaf-low (goal.at.overflow_add-at c).Then-toke
 pub go_on-requires : goal.go_on-requires
 go_on-requires c =
     let (t, xs, ready) = c.requires.1 in
-    let (o, os, d, e) = done t _ c.requires.0 _ _ xs ready c.if-token-lt256.true _ refl refl refl c.max-self.ensures in
+    let (o, os, d, e) = done t _ c.requires.0 _ _ xs ready c.if-token-lt256.true _ refl refl refl c.max.ensures in
     (t, o, os, d)
 
 pub returns-then-token-lt256 : goal.returns-then-token-lt256
 returns-then-token-lt256 c = λ t xs ready.
-    let (o, os, d, e) = done t _ c.requires.0 _ _ xs ready c.if-token-lt256.true _ refl refl refl c.max-self.ensures in
+    let (o, os, d, e) = done t _ c.requires.0 _ _ xs ready c.if-token-lt256.true _ refl refl refl c.max.ensures in
     rw (c.from-then-token-lt256.ensures, c.from.ensures)
-    (leaf_taken t _ c.requires.0 _ _ xs ready c.if-token-lt256.true _ (subst (At t c.go_on.new.self) e (c.go_on.ensures t o os d)))
+    (leaf_taken t _ c.requires.0 _ _ xs ready c.if-token-lt256.true _ (subst (At t _) e (c.go_on.ensures t o os d)))
 
 pub returns : goal.returns
 returns c = λ t xs ready.
-    let kind : IsKind c.args.token (kind_of c.if-token-lt384.self) =
+    let kind : IsKind c.args.token (kind_of c.if-token-lt384.result) =
     elim c.if-token-lt384.branch [
-      | then-token-lt384 w ↦ rw w.self-is w.if-token-lt384.true
-      | else-token-lt384 w ↦ rw w.self-is w.if-token-lt384.false
+      | then-token-lt384 w ↦ rw w.result-is w.if-token-lt384.true
+      | else-token-lt384 w ↦ rw w.result-is w.if-token-lt384.false
     ] in
     group_taken t _ c.requires.0 _ _ xs ready c.if-token-lt256.false _ kind refl refl refl
