@@ -20,7 +20,7 @@ pub enum Kind {
 #[derive(Clone, Copy)]
 pub struct Group {
     kind: Kind,
-    coming: u8,
+    coming: u16,
     at: u8,
     end: u8,
 }
@@ -110,7 +110,7 @@ impl Numbering {
         self.outer.depth += 1;
         Group {
             kind: if token < 384 { Kind::Chain } else { Kind::Side },
-            coming: (token % 128) as u8,
+            coming: (token % 128) as u16,
             at,
             end: at,
         }
