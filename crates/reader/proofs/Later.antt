@@ -7,7 +7,7 @@ use mathlib.Core.Logic.{⊎_elim}
 use native.Mathlib.Omega.{arith}
 use lib.Dec.{eqb}
 use lib.ListN.{length, get_or, set, take, drop, replicate, length-set, take-append-drop}
-use lib.Seq.{drop-cons, drop-length, get_or-take, length-take-le}
+use lib.Seq.{drop-cons, drop-length}
 use Rattle.poset.specs.Lists.{exists, member, occurrences, ahead_in}
 use Rattle.poset.specs.Order.{Rel}
 use Rattle.poset.proofs.Laws.{decided, clash, false_unless, or_right, eqb-true, eqb_same, eqb_differ, any_yes, any_not}
@@ -16,7 +16,6 @@ use Rattle.poset.proofs.Ahead.{ahead_here, ahead_later}
 use Rattle.relation.specs.Table.{has, holds}
 use Rattle.relation.proofs.Tables.{set_row, has_blank, holds_blank}
 use Rattle.record.specs.Bits.{AllBelow}
-use Rattle.reader.proofs.Walks.{below_at}
 
 -- what stands ahead is in the list
 pub ahead_first : (u v : ℕ) (xs : List ℕ) → ahead_in u v xs ≡ true → Memᴰ u xs
@@ -44,15 +43,6 @@ member_more v x xs =
     let differ : eqb x v ≡ false = eqb_differ x v (λ q. clash (ap (eqb v) q ∙ eqb_same v) e) in
     any_not (eqb v) x xs e ∙ sym (ap (λ (b : Bool). exists (eqb v) xs || b) differ ∙ or-false (exists (eqb v) xs)))
     (decided (eqb v x))
-
--- the job of an entry
-pub entry : (rel : ℕ → Rel) (list : List ℕ) (n i : ℕ) (rows : List (List ℕ)) (passed : List ℕ) → n ≤ length list → AllBelow 128 (take n list)
-    → Passed rel (take n list) i rows passed → 0 < i
-    → (i ≤ n) × (get_or list (i - 1) 0 ≡ get_or (take n list) (i - 1) 0) × (get_or list (i - 1) 0 < 128)
-entry rel list n i rows passed l small p some =
-    let inside : i ≤ n = omega (arith, p.within, length-take-le n list l) in
-    let same : get_or list (i - 1) 0 ≡ get_or (take n list) (i - 1) 0 = sym (get_or-take n list (i - 1) 0 (omega arith)) in
-    (inside, same, omega (arith, below_at 128 (take n list) (i - 1) small (omega (arith, p.within))))
 
 module _ (rel : ℕ → Rel) (xs : List ℕ) where
   passed_none : (i : ℕ) (rows : List (List ℕ)) → i ≡ length xs → length rows ≡ 128 → ((u v : ℕ) → holds rows u v ≡ rel i u v)

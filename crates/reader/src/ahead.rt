@@ -6,20 +6,17 @@ ghost use Rattle.record.specs.Bits.{AllBelow};
 
 use relation::set::JobSet;
 
-// For each job those that stand later in the first n entries, from the last entry back.
-fn later(list: &[u8; 128], n: usize) -> [JobSet; 128]
-    requires { (n ≤ 128) × (length list.now ≡ 128) × AllBelow 128 (take n list.now) }
-    ensures { (length result ≡ 128) × ((u v : ℕ) → holds result u v ≡ ahead_in u v (take n list.now)) }
+// For each job those that stand later in a sequence, from the last job back.
+fn later(jobs: &[u8]) -> [JobSet; 128]
+    requires { AllBelow 128 jobs.now }
+    ensures { (length result ≡ 128) × ((u v : ℕ) → holds result u v ≡ ahead_in u v jobs.now) }
 {
     let mut rows = [JobSet::EMPTY; 128];
     let mut passed = JobSet::EMPTY;
-    let mut i = n;
-    while i > 0 {
-        i -= 1;
-        let job = usize::from(list[i]);
+    for job in jobs.iter().rev() {
+        let job = usize::from(*job);
         rows[job] = passed;
-        let more = passed.union(JobSet::only(job));
-        passed = more;
+        passed = passed.union(JobSet::only(job));
     }
     rows
 }
@@ -33,15 +30,12 @@ pub fn order_of(forward: &[u8; 128], reverse: &[u8; 128], n: usize) -> [JobSet; 
     ensures { (u v : ℕ) → holds result u v
         ≡ (ahead_in u v (take n forward.now) && ahead_in u v (take n reverse.now)) }
 {
-    let mut rows = later(forward, n);
-    let mut passed = JobSet::EMPTY;
-    let mut i = n;
-    while i > 0 {
-        i -= 1;
-        let job = usize::from(reverse[i]);
-        rows[job] = rows[job].intersection(passed);
-        let more = passed.union(JobSet::only(job));
-        passed = more;
+    let mut rows = later(&forward[..n]);
+    let mut behind = JobSet::EMPTY;
+    for job in reverse[..n].iter().rev() {
+        let job = usize::from(*job);
+        rows[job] = rows[job].intersection(behind);
+        behind = behind.union(JobSet::only(job));
     }
     rows
 }

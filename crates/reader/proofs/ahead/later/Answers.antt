@@ -1,52 +1,61 @@
 -- `ahead::later` meets its contract.
-use Prim.Native.Nat.{ℕ, ◌-◌, ◌≤◌, ◌<◌}
-use mathlib.Core.Path.{◌≡◌, sym, ap, ◌∙◌}
+use Prim.Native.Nat.{ℕ, ◌-◌, ◌<◌}
+use mathlib.Core.Path.{◌≡◌, ap, subst, ◌∙◌}
+use mathlib.Core.List.{[], ◌∷◌, ◌++◌}
 use native.Mathlib.Omega.{arith}
-use lib.ListN.{get_or, take, drop}
-use lib.Seq.{length-take-le}
+use lib.ListN.{length, get_or, set, drop}
+use Rattle.std.proofs.lemmas.Iterator.Adapters.{YieldsList-from_rev_slice}
+use Rattle.std.proofs.lemmas.Iterator.Consumers.{YieldsList-turn, YieldsList-end}
+use Rattle.std.proofs.lemmas.List.{length-reverse, length_push}
 use Rattle.poset.specs.Lists.{ahead_in}
-use Rattle.reader.proofs.Later.{entry, later_none, later_more}
-use Rattle.reader.proofs.ahead.later.Goals.{In-loop-i}
+use Rattle.reader.proofs.Backward.{from_last}
+use Rattle.reader.proofs.Later.{Passed, later_from, later_none, later_more}
+use Rattle.reader.proofs.Walks.{below_at}
+use Rattle.reader.proofs.ahead.later.Goals.{After-from-job}
 use Rattle.reader.proofs.ahead.later.Goals as goal
 
--- the entry that is read, and its job
-job-entry : (c : goal.In-loop-i)
-    → (c.loop-i.i ≤ c.args.n)
-    × (get_or c.args.list.now (c.loop-i.i - 1) 0
-    ≡ get_or (take c.args.n c.args.list.now) (c.loop-i.i - 1) 0)
-    × (get_or c.args.list.now (c.loop-i.i - 1) 0 < 128)
-job-entry c =
-    let l = c.loop-i in
-    entry _ c.args.list.now c.args.n l.i l.rows l.passed (omega arith) c.requires.2 l.invariant c.loop-i-test.true
+pub loop-job-init : goal.loop-job-init
+loop-job-init c = later_none c.args.jobs.now _ (omega arith)
 
-pub loop-i-init : goal.loop-i-init
-loop-i-init c = later_none (take c.args.n c.args.list.now) c.args.n (sym (length-take-le c.args.n c.args.list.now (omega arith)))
+-- the job that is taken
+module _ (c : goal.After-from-job) where
+  abbrev i : ℕ
+  i = length c.args.jobs.now - length c.loop-job.yielded
 
-pub bounds-list-i : goal.bounds-list-i
-bounds-list-i c = omega (arith, (job-entry (goal.at.bounds-list-i c).In-loop-i).0, c.requires.0)
-
-pub offset_bounds-rows-job : goal.offset_bounds-rows-job
-offset_bounds-rows-job c = omega (arith, (job-entry (goal.at.offset_bounds-rows-job c).In-loop-i).2, c.from-job.ensures)
-
-pub bounds-rows-job : goal.bounds-rows-job
-bounds-rows-job c = omega (arith, (job-entry (goal.at.bounds-rows-job c).In-loop-i).2, c.from-job.ensures)
+  taken : (0 < i) × (c.from-job.result ≡ get_or c.args.jobs.now (i - 1) 0) × (c.from-job.result < 128)
+  taken =
+      let jobs = c.args.jobs.now in
+      let (inside, is) =
+      from_last 0 jobs _ _
+      (YieldsList-turn (YieldsList-from_rev_slice jobs cc) c.loop-job.yielded _ c.loop-job.yielded_by _ _ c.in-Some.job c.in-Some.is
+      c.next.ensures.steps) in
+      let same : c.from-job.result ≡ get_or jobs (i - 1) 0 = c.from-job.ensures ∙ is in
+      (omega arith, same, omega (arith, same, below_at 128 jobs (i - 1) c.requires (omega arith)))
 
 pub listed : goal.listed
-listed c = omega (arith, (job-entry (goal.at.listed c).In-loop-i).2, c.from-job.ensures)
+listed c = omega (arith, (taken (goal.at.listed c).After-from-job).2)
+
+pub bounds-rows-job : goal.bounds-rows-job
+bounds-rows-job c = (taken (goal.at.bounds-rows-job c).After-from-job).2
 
 pub only-requires : goal.only-requires
-only-requires c = omega (arith, (job-entry (goal.at.only-requires c).In-loop-i).2, c.from-job.ensures)
+only-requires c = (taken (goal.at.only-requires c).After-from-job).2
 
-pub loop-i-preserved : goal.loop-i-preserved
-loop-i-preserved c =
-    let l = c.loop-i in
-    let w = c.from-job in
-    later_more (take c.args.n c.args.list.now) l.i l.rows l.passed l.invariant c.loop-i-test.true
-    w.result (w.ensures ∙ (job-entry (goal.at.loop-i-preserved c).In-loop-i).1) c.only.result c.union-more.result
-    (omega (arith, (job-entry (goal.at.loop-i-preserved c).In-loop-i).2, w.ensures)) c.only.ensures c.union-more.ensures
+pub loop-job-preserved : goal.loop-job-preserved
+loop-job-preserved c =
+    let q = (goal.at.loop-job-preserved c).After-from-job in
+    let jobs = c.args.jobs.now in
+    let l = c.loop-job in
+    let (some, same, small) = taken q in
+    let place : i q - 1 ≡ length jobs - length (l.yielded ++ c.in-Some.job ∷ []) = omega (arith, length_push l.yielded c.in-Some.job) in
+    subst (λ (n : ℕ). Passed (later_from jobs) jobs n (set l.rows c.from-job.result l.passed) c.union-passed.result) place
+    (later_more jobs (i q) l.rows l.passed l.invariant some c.from-job.result same c.only.result c.union-passed.result small c.only.ensures
+    c.union-passed.ensures)
 
 pub returns : goal.returns
 returns c =
-    let l = c.loop-i in
-    let none : l.i ≡ 0 = omega (arith, c.loop-i-test.false) in
-    (l.invariant.size, λ u v. l.invariant.held u v ∙ ap (λ (k : ℕ). ahead_in u v (drop k (take c.args.n c.args.list.now))) none)
+    let jobs = c.args.jobs.now in
+    let l = c.loop-job in
+    let (_, all) = YieldsList-end (YieldsList-from_rev_slice jobs cc) l.yielded _ l.yielded_by _ _ c.in-None.is c.next.ensures.steps in
+    let none : length jobs - length l.yielded ≡ 0 = omega (arith, all, length-reverse jobs) in
+    (l.invariant.size, λ u v. l.invariant.held u v ∙ ap (λ (k : ℕ). ahead_in u v (drop k jobs)) none)

@@ -1,10 +1,8 @@
--- The invariant of `ahead::later`: the entries from i on are passed.
-use lib.ListN.{take}
+-- The invariant of `ahead::later`: the jobs from the one that was taken last on are passed.
+use Prim.Native.Nat.{◌-◌}
+use lib.ListN.{length}
 use Rattle.reader.proofs.Later.{Passed, later_from}
 use Rattle.reader.proofs.ahead.later.Given as goal
 
-abbrev pub invariant-loop-i : goal.invariant-loop-i
-invariant-loop-i l = Passed (later_from (take l.n l.list)) (take l.n l.list) l.i l.rows l.passed
-
-abbrev pub decreases-loop-i : goal.decreases-loop-i
-decreases-loop-i l = l.i
+abbrev pub invariant-loop-job : goal.invariant-loop-job
+invariant-loop-job l = Passed (later_from l.jobs) l.jobs (length l.jobs - length l.yielded) l.rows l.passed
