@@ -8,6 +8,7 @@ ghost use Rattle.reason.specs.Outcome.{rule_number};
 ghost use Rattle.reason.specs.Rows.{mark_number, marked, Rowed, Takes, Decides, rule_by, Sought, Decided, Ahead};
 
 use crate::Rule;
+use record::Token;
 
 // Which of the jobs are in a row; of both, whether they are one, or which stands ahead.
 #[derive(Clone, Copy)]
@@ -63,25 +64,28 @@ impl Row {
         }
     }
 
-    // One node more, by its token, a number as `Step` has it: a leaf is one tree more, a group takes the place of its
-    // children.
-    fn take(self, token: usize, first: usize, second: usize) -> Row
+    // One node more, by its token: a leaf is one tree more, a group takes the place of its children.
+    fn take(self, token: u16, first: usize, second: usize) -> Row
         requires { (ts us : List Tree) × Step token ts us × Fits us × Rowed first second ts self }
         ensures { Takes token first second self result }
     {
-        if token < 256 {
-            let height = self.height + 1;
-            return Row {
-                height,
-                low: self.raised(height),
-                mark: self.mark.with(token, first, second),
-            };
-        }
-        let height = self.height - token % 128;
-        Row {
-            height,
-            low: self.low.min(height),
-            mark: self.mark,
+        match Token::from(token) {
+            Token::Leaf(job) => {
+                let height = self.height + 1;
+                Row {
+                    height,
+                    low: self.raised(height),
+                    mark: self.mark.with(usize::from(job), first, second),
+                }
+            }
+            Token::Chain(more) | Token::Side(more) => {
+                let height = self.height - usize::from(more);
+                Row {
+                    height,
+                    low: self.low.min(height),
+                    mark: self.mark,
+                }
+            }
         }
     }
 
@@ -102,10 +106,13 @@ impl Row {
 }
 
 // The rule of the lowest node, by its token and how the jobs stand in the row: a side group's jobs are free.
-fn rule_at(token: usize, stand: Rule) -> Rule
+fn rule_at(token: u16, stand: Rule) -> Rule
     ensures { rule_number result ≡ rule_by token (rule_number stand) }
 {
-    if token < 384 { stand } else { Rule::Free }
+    match Token::from(token) {
+        Token::Side(_) => Rule::Free,
+        _ => stand,
+    }
 }
 
 // The rule, and the position of the lowest node.
@@ -126,7 +133,7 @@ pub fn lowest(nodes: &[u16], first: usize, second: usize) -> Decision
         mark: Mark::Neither,
     };
     for position in (0..nodes.len()).rev() {
-        let token = usize::from(nodes[position]);
+        let token = nodes[position];
         row = row.take(token, first, second);
         if let Some(stand) = row.decided() {
             return Decision {
@@ -146,12 +153,12 @@ pub fn jobs_under(nodes: &[u16]) -> usize
     let mut trees = 1;
     let mut jobs = 0;
     for token in nodes {
-        let token = usize::from(*token);
-        if token < 256 {
-            trees -= 1;
-            jobs += 1;
-        } else {
-            trees += token % 128;
+        match Token::from(*token) {
+            Token::Leaf(_) => {
+                trees -= 1;
+                jobs += 1;
+            }
+            Token::Chain(more) | Token::Side(more) => trees += usize::from(more),
         }
         if trees == 0 {
             return jobs;

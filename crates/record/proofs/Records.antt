@@ -4,7 +4,7 @@ use mathlib.Core.Path.{◌≡◌, sym, ap, ap₂, subst, ◌∙◌}
 use mathlib.Core.List.Memᴰ
 use mathlib.Core.List.{List, ◌++◌, map, append_assoc}
 use mathlib.Core.Bool.{Bool, true, ◌&&◌, and-true}
-use Rattle.std.specs.Prelude.{None, Some, option_and_then}
+use Rattle.std.specs.Prelude.{None, Some}
 use Rattle.std.proofs.lemmas.Option.{same_Some}
 use mathlib.Core.Logic.{◌↔◌, ⊎_elim}
 use native.Mathlib.Decide.{dec_lt}

@@ -1,17 +1,19 @@
 -- The tokens of a tree are its bits.
 use Prim.Native.Nat.{ℕ, zero, suc, ◌+◌, ◌*◌, ◌%◌, ◌^◌, ◌≤◌, ◌<◌}
-use mathlib.Core.Path.{◌≡◌, refl, sym, ap, ap₂, ◌∙◌}
+use mathlib.Core.Path.{◌≡◌, refl, sym, ap, ap₂, subst, ◌∙◌}
 use mathlib.Core.List.Memᴰ
 use mathlib.Core.List.{List, [], ◌∷◌, ◌++◌, flat_map, append-nil}
-use mathlib.Core.Logic.{◌⊎◌, inl, inr}
+use mathlib.Core.Logic.{◌⊎◌, inl, inr, ⊎_elim}
 use native.Mathlib.Omega.{arith}
 use lib.Dec.{ltb}
 use lib.ListN.{length, get_or, length-append}
 use Rattle.poset.specs.Tree.{Kind, Tree, leaf, node, Forest, last, more, leaves, forest_leaves, groups, forest_groups}
 use Rattle.poset.proofs.Laws.{lt_true, ltb-true, false_unless, flat_map_append}
+use Rattle.record.specs.declared.Token.{Token}
+use Rattle.record.specs.declared.Token.TheVariants.{Chain, Side}
 use Rattle.record.specs.Bits.{bits}
 use Rattle.record.specs.Layout.{hours_bits, leaf_bits, kind_bit, more_children, hours_of, tree_bits, forest_bits}
-use Rattle.record.specs.Tokens.{group_token, tokens, forest_tokens, field_bits, node_room, Small}
+use Rattle.record.specs.Tokens.{Tells, group_token, tokens, forest_tokens, field_bits, node_room, Small}
 use Rattle.record.proofs.Fields.{length_bits, bits_cons}
 use Rattle.record.proofs.Sizes.{groups_lt, forest_groups_lem, kind_below, small_left, small_right}
 
@@ -128,3 +130,11 @@ mutual
   forest_tokens_are (more t f) h =
       all_both (tokens t) (forest_tokens f)
       (tokens_are t (small_left (leaves t) (forest_leaves f) h)) (forest_tokens_are f (small_right (leaves t) (forest_leaves f) h))
+
+-- what a token says of a group of either kind
+pub tells_group : {x c : ℕ} (m : Token) → Tells x m → (m ≡ Chain c) ⊎ (m ≡ Side c) → (256 ≤ x) × (c ≡ x % 128)
+tells_group {x} m told kind =
+    ⊎_elim
+    (λ (e : m ≡ Chain _). let t = subst (Tells x) e told in (t.0, t.2))
+    (λ (e : m ≡ Side _). let t = subst (Tells x) e told in (omega (arith, t.0), t.1))
+    kind

@@ -1,10 +1,18 @@
 -- A tree as its tokens in a row, node before children: a leaf is its job, a group is 256, 128 for a parallel one, and its children minus 1.
 -- For inner contracts alone: who reads what a record is need not believe it, but specs/Layout.antt. The laws of it stand in proofs/Tokens.antt, those of
 -- leaves that fit a record in proofs/Sizes.antt.
-use Rattle.std.specs.Prelude.{ℕ, ◌+◌, ◌-◌, ◌*◌, ◌%◌, ◌≤◌, List, [], ◌∷◌, ◌++◌, true, false, ltb, length, replicate}
+use Rattle.std.specs.Prelude.{ℕ, ◌+◌, ◌-◌, ◌*◌, ◌%◌, ◌≡◌, ◌≤◌, ◌<◌, List, [], ◌∷◌, ◌++◌, true, false, ltb, length, replicate}
 use Rattle.poset.specs.Tree.{Kind, Tree, leaf, node, Forest, last, more}
 use Rattle.record.specs.Bits.{AllBelow, bits}
+use Rattle.record.specs.declared.Token.{Token}
+use Rattle.record.specs.declared.Token.TheVariants.{Leaf, Chain, Side}
 use Rattle.record.specs.Layout.{hours_bits, kind_bit, more_children, hours_of}
+
+-- what a token says of its node
+abbrev pub Tells : ℕ → Token → Type 0
+Tells x (Leaf j) = (x < 256) × (j ≡ x)
+Tells x (Chain c) = (256 ≤ x) × (x < 384) × (c ≡ x % 128)
+Tells x (Side c) = (384 ≤ x) × (c ≡ x % 128)
 
 abbrev pub group_token : Kind → ℕ → ℕ
 group_token k m = 256 + 128 * kind_bit k + m

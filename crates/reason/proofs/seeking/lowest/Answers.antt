@@ -1,12 +1,11 @@
 -- `seeking::lowest` meets its contract.
-use Prim.Native.Nat.{ℕ, ◌-◌}
-use mathlib.Core.Path.{ap₂, ◌∙◌}
+use Prim.Native.Nat.{◌-◌}
 use mathlib.Core.Logic.{inl, ⊎_elim}
 use native.Mathlib.Omega.{arith}
 use lib.ListN.{length}
 use Rattle.poset.specs.Tree.{Tree}
 use Rattle.reader.proofs.Pending.{spells, pending, row_fits}
-use Rattle.reason.specs.Rows.{Sought, rule_by}
+use Rattle.reason.specs.Rows.{Sought}
 use Rattle.reason.proofs.Searching.{Searched, searched_none, not_first, step, searched_more, decided_at}
 use Rattle.reason.proofs.seeking.lowest.Goals.{After-take-row}
 use Rattle.reason.proofs.seeking.lowest.Goals as goal
@@ -21,7 +20,7 @@ take-row-requires c =
     let found = row t x in (
       pending c.loop-position.position (spells t),
       pending (c.loop-position.position - 1) (spells t),
-      rw c.from-token.ensures (step _ _ t _ _ x _ _ found on),
+      step _ _ t _ _ x _ _ found on,
       row_fits t _ _ x.nodes (c.loop-position.position - 1),
       found.rowed,
     )
@@ -33,14 +32,14 @@ more c t x =
     let (on, row) = c.loop-position.invariant in
     let found = row t x in
     searched_more _ _ t _ _ x _ _ found on _
-    (c.take-row.ensures _ _ (rw c.from-token.ensures (step _ _ t _ _ x _ _ found on)) (row_fits t _ _ x.nodes (c.loop-position.position - 1)) found.rowed)
+    (c.take-row.ensures _ _ (step _ _ t _ _ x _ _ found on) (row_fits t _ _ x.nodes (c.loop-position.position - 1)) found.rowed)
 
 pub returns-in-Some : goal.returns-in-Some
 returns-in-Some c = λ t x.
     let end = c.in-Some.ensures in
     decided_at _ _ t _ _ x _ _ (more (goal.at.returns-in-Some c).After-take-row t x)
     (λ on. ⊎_elim (λ h. omega (arith, end.both, end.stand_is)) (λ h. omega (arith, end.whole)) on) _
-    (c.rule_at.ensures ∙ ap₂ (λ (n m : ℕ). rule_by n m) c.from-token.ensures end.stand_is)
+    (rw end.stand_is at c.rule_at.ensures)
 
 pub loop-position-preserved : goal.loop-position-preserved
 loop-position-preserved c = (c.in_default.ensures, more (goal.at.loop-position-preserved c).After-take-row)

@@ -1,6 +1,7 @@
 -- `Row::take` meets its contract: a law for a leaf, and one for a group.
 use mathlib.Core.Path.{refl}
 use native.Mathlib.Omega.{arith}
+use Rattle.record.proofs.Tokens.{tells_group}
 use Rattle.reason.proofs.Rows.{row_few, leaf_taken, group_taken}
 use Rattle.reason.proofs.seeking.Row.take.Goals as goal
 
@@ -9,15 +10,18 @@ overflow_add-height c =
     let (ts, us, step, fits, r) = c.requires in
     omega (arith, row_few _ _ _ _ ts us step fits r)
 
-pub returns-then-token-lt256 : goal.returns-then-token-lt256
-returns-then-token-lt256 c = λ ts us step fits r.
-    leaf_taken _ _ _ _ ts us step fits r c.if-token-lt256.true _ refl c.raised.ensures c.with.ensures
+pub returns-in-Leaf : goal.returns-in-Leaf
+returns-in-Leaf c = λ ts us step fits r.
+    let mark = rw (c.from-in-Leaf.ensures, c.in-Leaf.ensures.1) at c.with.ensures in
+    leaf_taken _ _ _ _ ts us step fits r c.in-Leaf.ensures.0 _ refl c.raised.ensures mark
 
 pub overflow_sub-height : goal.overflow_sub-height
 overflow_sub-height c =
     let (ts, us, step, fits, r) = c.requires in
-    (group_taken _ _ _ _ ts us step fits r c.if-token-lt256.false).0
+    let told = tells_group _ c.from.ensures c.in-Chain.is in
+    rw (c.from-in-Chain.ensures, told.1) (group_taken _ _ _ _ ts us step fits r told.0).0
 
-pub returns : goal.returns
-returns c = λ ts us step fits r.
-    rw c.min.ensures (group_taken _ _ _ _ ts us step fits r c.if-token-lt256.false).1
+pub returns-in-Chain : goal.returns-in-Chain
+returns-in-Chain c = λ ts us step fits r.
+    let told = tells_group _ c.from.ensures c.in-Chain.is in
+    rw (c.min.ensures, c.from-in-Chain.ensures, told.1) (group_taken _ _ _ _ ts us step fits r told.0).1
