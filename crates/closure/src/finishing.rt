@@ -1,4 +1,5 @@
-//! Rows made from the last jobs towards the first: each once, from the finished rows of the jobs that its own arcs lead to.
+//! Rows made from the last jobs towards the first: each once, from the finished rows of the jobs that its own arcs
+//! lead to.
 ghost use Rattle.std.specs.Prelude.{ℕ, ◌+◌, ◌^◌, ◌<◌, ◌≤◌, ◌≡◌, true, false, ◌&&◌, ◌||◌, not, eqb, length};
 ghost use Rattle.poset.specs.Lists.{exists, below};
 ghost use Rattle.poset.specs.Order.{via};
@@ -43,7 +44,8 @@ fn joined(rows: &[JobSet; 128], row: JobSet, joins: &mut usize) -> JobSet
     join_each(rows, part, row.high(), joins)
 }
 
-// The row of a job that is left, made from the rows of all that its arcs lead to, which are finished. The jobs that are left then: all but this one.
+// The row of a job that is left, made from the rows of all that its arcs lead to, which are finished. The jobs that
+// are left then: all but this one.
 fn finish(
     t: &[JobSet; 128],
     made: &mut [JobSet; 128],
@@ -66,9 +68,10 @@ fn finish(
     left.difference(JobSet::only(at))
 }
 
-// The rows of a job that is left and of all that it leads to, if no cycle is met. A job waits on a stack until the rows of all that its arcs
-// lead to are finished; an arc to itself or to a job on the stack is part of a cycle. Whether none is met; `left` then has the jobs still left:
-// in an Option they make the closure up to an eighth slower.
+// The rows of a job that is left and of all that it leads to, if no cycle is met. A job waits on a stack until the
+// rows of all that its arcs lead to are finished; an arc to itself or to a job on the stack is part of a cycle.
+// Whether none is met; `left` then has the jobs still left: in an Option they make the closure up to an eighth
+// slower.
 fn follow(
     t: &[JobSet; 128],
     made: &mut [JobSet; 128],
@@ -114,8 +117,8 @@ fn follow(
     }
 }
 
-// All rows into a table of empty ones, and the joins that they take, if there is no cycle; a job with no arc has its row already. Whether
-// there is no cycle.
+// All rows into a table of empty ones, and the joins that they take, if there is no cycle; a job with no arc has its
+// row already. Whether there is no cycle.
 pub fn finish_all(t: &[JobSet; 128], made: &mut [JobSet; 128], n: usize, joins: &mut usize) -> bool
     requires n_bound { (n ≤ 128) × (length made.old ≡ 128) }
     requires inside { Inside n t.now }

@@ -36,7 +36,8 @@ fn table(low: &[u64; 128], high: &[u64; 128], n: usize) -> [JobSet; 128]
     r
 }
 
-// Where a word of a column has a bit, the word a goes into it, and the word b into the one beside it in the other column. How many have it.
+// Where a word of a column has a bit, the word a goes into it, and the word b into the one beside it in the other
+// column. How many have it.
 fn spread(
     col: &mut [u64; 128],
     other: &mut [u64; 128],
@@ -64,7 +65,8 @@ fn spread(
     joins
 }
 
-// One pass: the row of k joined to the row of each job that is before k. How many joins it takes: none where the row is empty.
+// One pass: the row of k joined to the row of each job that is before k. How many joins it takes: none where the row
+// is empty.
 fn pass(low: &mut [u64; 128], high: &mut [u64; 128], k: usize, n: usize) -> usize
     requires n_bound { (n ≤ 128) × (k < n) × (length low.old ≡ 128) × (length high.old ≡ 128) }
     requires by_index { (u v : ℕ) → columns low.old high.old u v ≡ true → (u < n) × (v < n) }
@@ -98,8 +100,8 @@ fn range(t: &[JobSet; 128], n: usize) -> JobSet
     jobs
 }
 
-// The transitive closure among the jobs below n, and how many joins it takes. Within, a column of words lies together, for several rows at
-// a time. A pass through a job that no job is before would change nothing.
+// The transitive closure among the jobs below n, and how many joins it takes. Within, a column of words lies
+// together, for several rows at a time. A pass through a job that no job is before would change nothing.
 pub fn passed(t: &[JobSet; 128], n: usize, joins: &mut usize) -> [JobSet; 128]
     requires n_bound { n ≤ 128 }
     requires inside { Inside n t.now }

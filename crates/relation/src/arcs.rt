@@ -76,9 +76,10 @@ fn put(t: &mut [JobSet; 128], arcs: &[u16], k: usize)
     t[u].insert(v);
 }
 
-// The table of the arcs. A step takes one arc of each quarter, since arcs side by side are often of one row, and the second would wait for
-// the first. The quarters are those of one arc more where that makes a multiple of four: the last is one arc short then, and the arcs at the ends of the
-// others are put in after the loop. Where neither number is a multiple of four, quarters overlap.
+// The table of the arcs. A step takes one arc of each quarter, since arcs side by side are often of one row, and the
+// second would wait for the first. The quarters are those of one arc more where that makes a multiple of four: the
+// last is one arc short then, and the arcs at the ends of the others are put in after the loop. Where neither number
+// is a multiple of four, quarters overlap.
 pub fn table_of(arcs: &[u16]) -> [JobSet; 128]
     requires { Within 128 (pairs arcs.now) }
     ensures { (u v : ℕ) → holds result u v ≡ arc (pairs arcs.now) u v }

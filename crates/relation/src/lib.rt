@@ -1,4 +1,5 @@
-//! Relations on at most 128 jobs as tables of bits: a table from arcs, and of an order what is looked for in it and its reduction.
+//! Relations on at most 128 jobs as tables of bits: a table from arcs, and of an order what is looked for in it and
+//! its reduction.
 
 #![tactic(auto)]
 

@@ -58,7 +58,8 @@ fn with_smallest(a: usize, b: usize, c: usize, s: JobSet) -> Option<FourJobs>
     Some((a, b, c, s.smallest()))
 }
 
-// The first N with a and b: its c is among cs, which both are before, and its d among ds, which are after b and incomparable to a.
+// The first N with a and b: its c is among cs, which both are before, and its d among ds, which are after b and
+// incomparable to a.
 fn first_with_b(
     after: &[JobSet; 128],
     free: &[JobSet; 128],

@@ -1,5 +1,5 @@
-//! A table turned round by the binary digits of the jobs' numbers: a step exchanges digit e of a row's number with that of a column's.
-//! It works on pairs of rows whose numbers differ in digit e alone.
+//! A table turned round by the binary digits of the jobs' numbers: a step exchanges digit e of a row's number with
+//! that of a column's. It works on pairs of rows whose numbers differ in digit e alone.
 ghost use Rattle.std.specs.Prelude.{ℕ, ◌^◌, ◌<◌, ◌≤◌, ◌≡◌, not, length};
 ghost use Rattle.relation.specs.Table.{bit, has, holds};
 ghost use Rattle.relation.specs.Exchange.{first_row_of, second_row_of, exchanged, Until};

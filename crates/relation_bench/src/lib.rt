@@ -1,5 +1,5 @@
-//! The steps of crates `closure` and `relation`, for bench/closure, bench/relation and tests/compare, to which `relation_bench_c` exports them.
-//! Arcs that do not fit are refused.
+//! The steps of crates `closure` and `relation`, for bench/closure, bench/relation and tests/compare, to which
+//! `relation_bench_c` exports them. Arcs that do not fit are refused.
 
 #![tactic(auto)]
 
