@@ -86,13 +86,3 @@ Counts n count (Err r) = (rs : Rooms) (hours : List ℕ) (arcs : List Arc) → l
 abbrev pub Hours : ℕ → List ℕ → Result (Unit {0}) Refusal → Type 0
 Hours n hours (Ok _) = (length hours ≡ n) × (place (ltb most_hours) hours ≡ None)
 Hours n hours (Err r) = (rs : Rooms) (arcs : List Arc) → timed rs n hours arcs ≡ refused r
-
--- 7: the table of arcs on n jobs, and the order that it is closed to
-abbrev pub Closes : ℕ → List Arc → Result (List (List ℕ)) Refusal → Type 0
-Closes n arcs (Ok after) = (holds after ≡ before n arcs) × Strict n (holds after) × Inside n after × (first_on_cycle_of n (before n arcs) ≡ None)
-Closes n arcs (Err r) = (rs : Rooms) (hours : List ℕ) → ordered rs n hours (before n arcs) ≡ refused r
-
--- 8: what is written of a strict order and the hours of its jobs
-abbrev pub Writes : ℕ → Rel → List ℕ → Result Written Refusal → Type 0
-Writes n r hours (Ok w) = (t : Tree) × (tree_of n r ≡ Some t) × (w ≡ record_of n hours t)
-Writes n r hours (Err e) = (tree_of n r ≡ None) × (e ≡ crossed_by (first_n_of n r))

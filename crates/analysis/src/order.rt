@@ -1,35 +1,20 @@
 //! An order taken apart, or its refusal.
-ghost use Rattle.std.specs.Prelude.{ℕ, ◌<◌, ◌≤◌, ◌^◌, ◌≡◌, List, length};
-ghost use Rattle.poset.specs.Order.{Arc, Strict, Within, arc, before, first_n_of};
+ghost use Rattle.std.specs.Prelude.{ℕ, ◌<◌, ◌≤◌, ◌^◌, ◌≡◌, length};
+ghost use Rattle.poset.specs.Order.{Strict, Within, before, first_n_of};
 ghost use Rattle.relation.specs.Table.{holds, Inside};
 ghost use Rattle.relation.specs.Arcs.{pairs};
 ghost use Rattle.record.specs.Bits.{AllBelow};
 ghost use Rattle.record.specs.Layout.{hours_bits};
 ghost use Rattle.analysis.specs.Outcome.{decomposed, ordered};
-ghost use Rattle.analysis.specs.Result.{Closes, Writes, Gives, rooms, crossed_by};
+ghost use Rattle.analysis.specs.Result.{Gives, rooms, crossed_by};
 
 use crate::{Accepted, Analysis, Refusal, areas, hours};
 use relation::set::JobSet;
 use relation::{arcs, order, reduction, search};
 use writer::writing;
-use writer::writing::Written;
-
-// 7: the table of arcs, closed to their order.
-pub fn closed(table: [JobSet; 128], n: usize) -> Result<[JobSet; 128], Refusal>
-    requires n_bound { n ≤ 128 }
-    requires inside { Inside n table }
-    ensures { (arcs : List Arc) → ((u v : ℕ) → holds table u v ≡ arc arcs u v) → Closes n arcs result }
-{
-    let mut joins = 0;
-    let after = closure::transitive_closure(table, n, &mut joins);
-    match order::first_on_cycle(after, n) {
-        Some(u) => Err(Refusal::Cycle(u)),
-        None => Ok(after),
-    }
-}
 
 // The refusal of an order that no tree means: the first N.
-fn crossed(after: [JobSet; 128], under: &[JobSet; 128], n: usize) -> Refusal
+pub fn crossed(after: [JobSet; 128], under: &[JobSet; 128], n: usize) -> Refusal
     requires n_bound { n ≤ 128 }
     requires inside { Inside n after }
     requires by_index { (u v : ℕ) → holds under.now u v ≡ holds after v u }
@@ -38,21 +23,6 @@ fn crossed(after: [JobSet; 128], under: &[JobSet; 128], n: usize) -> Refusal
     match search::first_n(after, under, n) {
         Some((a, b, c, d)) => Refusal::Crossed(a, b, c, d),
         None => Refusal::Crossed(0, 0, 0, 0),
-    }
-}
-
-// 8: what is written of a strict order, with the hours of each job.
-pub fn written(after: [JobSet; 128], n: usize, hours: &[u16; 128]) -> Result<Written, Refusal>
-    requires n_nonzero { (0 < n) × (n ≤ 128) }
-    requires strict { Strict n (holds after) }
-    requires inside { Inside n after }
-    requires hours_value { AllBelow (2 ^ hours_bits) hours.now }
-    ensures { Writes n (holds after) hours.now result }
-{
-    let under = order::transposed(after, n);
-    match writing::write_record(after, &under, n, hours) {
-        Some(written) => Ok(written),
-        None => Err(crossed(after, &under, n)),
     }
 }
 
@@ -73,8 +43,11 @@ fn take_apart(
     ensures { Gives (decomposed (rooms bytes.old area.old) n hours.now (holds after))
         bytes.old area.old result bytes.new area.new }
 {
+    let under = order::transposed(after, n);
     let all = hours::padded(hours);
-    let written = written(after, n, &all)?;
+    let Some(written) = writing::write_record(after, &under, n, &all) else {
+        return Err(crossed(after, &under, n));
+    };
     let reduced = reduction::reduced(after, n);
     let count = reduction::pair_count(&reduced, n);
     if bytes.len() < written.count {
@@ -111,6 +84,10 @@ pub fn of_arcs(
     ensures { Gives (ordered (rooms bytes.old area.old) n hours.now (before n (pairs list.now)))
         bytes.old area.old result bytes.new area.new }
 {
-    let after = closed(arcs::table_of(list), n)?;
+    let mut joins = 0;
+    let after = closure::transitive_closure(arcs::table_of(list), n, &mut joins);
+    if let Some(u) = order::first_on_cycle(after, n) {
+        return Err(Refusal::Cycle(u));
+    }
     take_apart(after, n, hours, bytes, area)
 }

@@ -17,7 +17,7 @@ use Rattle.writer.specs.declared.writing.Written.{Written}
 use Rattle.writer.proofs.Spelling.{bytes_count}
 use Rattle.analysis.specs.Answer.{answer}
 use Rattle.analysis.specs.Outcome.{roomy, Outcome, refuse, accept, decomposed}
-use Rattle.analysis.specs.Result.{refused, answer_of}
+use Rattle.analysis.specs.Result.{refusal_answer, refused, answer_of}
 use Rattle.analysis.specs.declared.Accepted.{Accepted}
 use Rattle.analysis.specs.declared.Refusal.{Refusal}
 use Rattle.analysis.proofs.Crossing.{tree_outcome}
@@ -30,6 +30,10 @@ same_answer e = ap (λ (o : Outcome). o.verdict) e
 pub told_refused : {o : Outcome} {k a b c d : ℕ} → o ≡ refuse k a b c d → answer k a b c d ≡ o.verdict
 unfolding refuse
 told_refused e = same_answer (sym e)
+
+pub told_by : {o : Outcome} (e : Refusal) → o ≡ refused e → refusal_answer e ≡ o.verdict
+unfolding refuse
+told_by e h = same_answer (sym h)
 
 -- what a `?` hands back of a step that refuses
 pub told_err : {o : Outcome} (r : Result Accepted Refusal) (e : Refusal) → IsErrAnd r (λ y. y ≡ e) → o ≡ refused e → answer_of r ≡ o.verdict

@@ -1,27 +1,33 @@
 //! The answer on an order. No area is written.
 ghost use Rattle.std.specs.Prelude.{◌<◌, ◌≤◌, ◌^◌, ◌≡◌, ◌++◌, length};
-ghost use Rattle.poset.specs.Order.{Within, before};
+ghost use Rattle.poset.specs.Order.{Strict, Within, before};
 ghost use Rattle.relation.specs.Arcs.{pairs};
+ghost use Rattle.relation.specs.Table.{holds, Inside};
 ghost use Rattle.record.specs.Bits.{AllBelow};
 ghost use Rattle.record.specs.Layout.{hours_bits};
-ghost use Rattle.analysis.specs.Outcome.{roomy, ordered};
+ghost use Rattle.analysis.specs.Outcome.{roomy, decomposed, ordered};
 ghost use Rattle.analysis.specs.Result.{answer_of};
 
 use crate::ends;
-use analysis::{Accepted, Refusal, hours, order};
-use relation::reduction;
+use analysis::order::crossed;
+use analysis::{Accepted, Refusal, hours};
+use relation::set::JobSet;
+use relation::{order, reduction};
+use writer::writing;
 
-// The order of arcs that name jobs below n alone: its first circle or N, or how much its record and its reduced orders
-// take.
-pub fn of_arcs(list: &[u16], last: &[u16], n: usize, hours: &[u16]) -> Result<Accepted, Refusal>
+// A strict order: its first N, or how much its record and its reduced orders take.
+fn of_order(after: [JobSet; 128], n: usize, hours: &[u16]) -> Result<Accepted, Refusal>
     requires n_nonzero { (0 < n) × (n ≤ 128) }
-    requires within { Within n (pairs list.now ++ pairs last.now) }
+    requires strict { Strict n (holds after) }
+    requires inside { Inside n after }
     requires hours_len { (length hours.now ≡ n) × AllBelow (2 ^ hours_bits) hours.now }
-    ensures { answer_of result ≡ (ordered roomy n hours.now (before n (pairs list.now ++ pairs last.now))).verdict }
+    ensures { answer_of result ≡ (decomposed roomy n hours.now (holds after)).verdict }
 {
-    let after = order::closed(ends::table_of(list, last), n)?;
+    let under = order::transposed(after, n);
     let all = hours::padded(hours);
-    let written = order::written(after, n, &all)?;
+    let Some(written) = writing::write_record(after, &under, n, &all) else {
+        return Err(crossed(after, &under, n));
+    };
     let reduced = reduction::reduced(after, n);
     let count = reduction::pair_count(&reduced, n);
     Ok(Accepted {
@@ -29,4 +35,19 @@ pub fn of_arcs(list: &[u16], last: &[u16], n: usize, hours: &[u16]) -> Result<Ac
         arcs: count,
         groups: written.groups,
     })
+}
+
+// The order of arcs that name jobs below n alone: its first circle, or the order taken apart.
+pub fn of_arcs(list: &[u16], last: &[u16], n: usize, hours: &[u16]) -> Result<Accepted, Refusal>
+    requires n_nonzero { (0 < n) × (n ≤ 128) }
+    requires within { Within n (pairs list.now ++ pairs last.now) }
+    requires hours_len { (length hours.now ≡ n) × AllBelow (2 ^ hours_bits) hours.now }
+    ensures { answer_of result ≡ (ordered roomy n hours.now (before n (pairs list.now ++ pairs last.now))).verdict }
+{
+    let mut joins = 0;
+    let after = closure::transitive_closure(ends::table_of(list, last), n, &mut joins);
+    if let Some(u) = order::first_on_cycle(after, n) {
+        return Err(Refusal::Cycle(u));
+    }
+    of_order(after, n, hours)
 }

@@ -1,19 +1,41 @@
--- `order::of_arcs` meets its contract: the closure decides 7, and the order taken apart all others.
-use mathlib.Core.Path.{sym, ap, ◌∙◌}
+-- `order::of_arcs` meets its contract: the closure's first job before itself decides 7, and the order taken apart all others.
+use mathlib.Core.Path.{◌≡◌, sym, ap, ◌∙◌}
+use Rattle.poset.specs.Order.{Strict}
 use Rattle.relation.specs.Arcs.{pairs}
+use Rattle.relation.specs.Table.{holds, Inside}
 use Rattle.relation.proofs.Chain.{table_inside}
 use Rattle.analysis.specs.Outcome.{decomposed}
-use Rattle.analysis.proofs.Circles.{order_outcome}
-use Rattle.analysis.proofs.Crossing.{gives_same, gives_err}
+use Rattle.analysis.proofs.Circles.{circle_outcome, order_outcome, closes, circle_of, order_asks}
+use Rattle.analysis.proofs.Crossing.{gives_same, gives_refusal}
 use Rattle.analysis.proofs.order.of_arcs.Goals as goal
+use Rattle.analysis.proofs.order.of_arcs.Goals.{In_default}
 
-pub closed-requires-clause-inside : goal.closed-requires-clause-inside
-closed-requires-clause-inside c = table_inside c.args.n (pairs c.args.list.now) c.table_of.result c.table_of.ensures c.requires.within
+-- what is asked of an order is so of the closure
+asked : (c : goal.In_default) → Strict c.args.n (holds c.transitive_closure-after.result) × Inside c.args.n c.transitive_closure-after.result
+asked c =
+    let arcs = pairs c.args.list.now in
+    order_asks c.args.n arcs c.table_of.result _ c.table_of.ensures c.transitive_closure-after.ensures.by_index
+    (table_inside c.args.n arcs c.table_of.result c.table_of.ensures c.requires.within) c.in_default.ensures
 
-pub returns-in_err-after : goal.returns-in_err-after
-returns-in_err-after c = gives_err _ c.from_residual.ensures.1 (c.in_err-after.ensures (pairs c.args.list.now) c.table_of.ensures _ _)
+pub transitive_closure-after-requires-clause-inside : goal.transitive_closure-after-requires-clause-inside
+transitive_closure-after-requires-clause-inside c =
+    table_inside c.args.n (pairs c.args.list.now) c.table_of.result c.table_of.ensures c.requires.within
+
+pub returns-in-Some : goal.returns-in-Some
+returns-in-Some c =
+    gives_refusal _ (circle_outcome _ _ _ _
+    (circle_of c.args.n (pairs c.args.list.now) c.table_of.result _ c.table_of.ensures c.transitive_closure-after.ensures.by_index c.in-Some.ensures))
+
+pub take_apart-requires : goal.take_apart-requires
+take_apart-requires c =
+    let a = asked (goal.at.take_apart-requires c).In_default in
+    record { n_nonzero = c.requires.n_nonzero; strict = a.0; inside = a.1; hours_len = c.requires.hours_len }
 
 pub returns : goal.returns
 returns c =
-    let h = c.in_ok-after.ensures (pairs c.args.list.now) c.table_of.ensures in
-    gives_same (ap (decomposed _ _ _) h.0 ∙ sym (order_outcome _ _ _ _ h.3)) c.take_apart.ensures
+    let arcs = pairs c.args.list.now in
+    let closed = c.transitive_closure-after.ensures.by_index in
+    gives_same
+    (ap (decomposed _ _ _) (closes c.args.n arcs c.table_of.result _ c.table_of.ensures closed)
+    ∙ sym (order_outcome _ _ _ _ (circle_of c.args.n arcs c.table_of.result _ c.table_of.ensures closed c.in_default.ensures)))
+    c.take_apart.ensures

@@ -7,29 +7,31 @@ use Rattle.poset.specs.Decompose.{tree_of}
 use Rattle.relation.specs.Table.{holds, Inside}
 use Rattle.relation.proofs.Chain.{reduced_inside}
 use Rattle.writer.specs.Written.{record_of}
-use Rattle.writer.proofs.Spelling.{bytes_few, bytes_size}
-use Rattle.analysis.proofs.Crossing.{gives_err, crossed_outcome}
+use Rattle.writer.proofs.Spelling.{written_some, written_none, bytes_few, bytes_size}
+use Rattle.analysis.proofs.Crossing.{gives_refusal, crossed_outcome}
 use Rattle.analysis.proofs.Taking.{count_few, gives_9, gives_10, gives_0}
 use Rattle.analysis.proofs.Times.{all_below_lem, written_all}
 use Rattle.analysis.proofs.order.take_apart.Goals as goal
-use Rattle.analysis.proofs.order.take_apart.Goals.{In_ok-written, After-reduced-reduced}
+use Rattle.analysis.proofs.order.take_apart.Goals.{In-Some, After-reduced-reduced}
 
 -- a tree means the order: what is written is the record of the hours
-told : (c : goal.In_ok-written) → (t : Tree) × (tree_of c.args.n (holds c.args.after) ≡ Some t)
-    × (c.in_ok-written.written ≡ record_of c.args.n c.args.hours.now t)
-told c = let w = c.in_ok-written.ensures in (w.0, w.1, written_all c.args.hours.now c.padded-all.ensures c.args.n w.0 w.2)
+told : (c : goal.In-Some) → (t : Tree) × (tree_of c.args.n (holds c.args.after) ≡ Some t)
+    × (c.in-Some.written ≡ record_of c.args.n c.args.hours.now t)
+told c =
+    let w = written_some c.args.n c.padded-all.result (tree_of c.args.n (holds c.args.after)) c.in-Some.written c.in-Some.ensures in
+    (w.0, w.1, written_all c.args.hours.now c.padded-all.ensures c.args.n w.0 w.2)
 
 -- its reduced orders
 inside : (c : goal.After-reduced-reduced) → Inside c.args.n c.reduced-reduced.result
 inside c = reduced_inside c.args.n c.args.after c.reduced-reduced.result c.requires.inside c.reduced-reduced.ensures
 
-pub written-requires-clause-hours_value : goal.written-requires-clause-hours_value
-written-requires-clause-hours_value c = all_below_lem _ c.padded-all.ensures c.requires.hours_len.1
+pub write_record-requires-clause-all_below : goal.write_record-requires-clause-all_below
+write_record-requires-clause-all_below c = all_below_lem _ c.padded-all.ensures c.requires.hours_len.1
 
-pub returns-in_err-written : goal.returns-in_err-written
-returns-in_err-written c =
-    let e = c.in_err-written.ensures in
-    gives_err _ c.from_residual.ensures.1 (rw e.1 (crossed_outcome _ c.args.n c.args.hours.now (holds c.args.after) e.0))
+pub returns-in_default : goal.returns-in_default
+returns-in_default c =
+    let bare = written_none c.args.n c.padded-all.result (tree_of c.args.n (holds c.args.after)) c.in_default.ensures in
+    gives_refusal _ (rw c.crossed.ensures (crossed_outcome _ c.args.n c.args.hours.now (holds c.args.after) bare))
 
 pub pair_count-count-requires-clause-inside : goal.pair_count-count-requires-clause-inside
 pair_count-count-requires-clause-inside c = inside (goal.at.pair_count-count-requires-clause-inside c).After-reduced-reduced
@@ -37,8 +39,8 @@ pair_count-count-requires-clause-inside c = inside (goal.at.pair_count-count-req
 pub returns-then-bytes-written : goal.returns-then-bytes-written
 returns-then-bytes-written c =
     let a = c.args in
-    let (t, e, is) = told (goal.at.returns-then-bytes-written c).In_ok-written in
-    gives_9 a.n c.requires.n_nonzero.1 a.hours.now (holds a.after) c.requires.strict t e c.in_ok-written.written is c.reduced-reduced.result
+    let (t, e, is) = told (goal.at.returns-then-bytes-written c).In-Some in
+    gives_9 a.n c.requires.n_nonzero.1 a.hours.now (holds a.after) c.requires.strict t e c.in-Some.written is c.reduced-reduced.result
     c.reduced-reduced.ensures c.pair_count-count.result c.pair_count-count.ensures a.bytes.now a.area.now c.if-bytes-written.true
 
 pub overflow_mul-count : goal.overflow_mul-count
@@ -55,8 +57,8 @@ overflow_mul-count c =
 pub returns-then-area-count : goal.returns-then-area-count
 returns-then-area-count c =
     let a = c.args in
-    let (t, e, is) = told (goal.at.returns-then-area-count c).In_ok-written in
-    gives_10 a.n c.requires.n_nonzero.1 a.hours.now (holds a.after) c.requires.strict t e c.in_ok-written.written is c.reduced-reduced.result
+    let (t, e, is) = told (goal.at.returns-then-area-count c).In-Some in
+    gives_10 a.n c.requires.n_nonzero.1 a.hours.now (holds a.after) c.requires.strict t e c.in-Some.written is c.reduced-reduced.result
     c.reduced-reduced.ensures c.pair_count-count.result c.pair_count-count.ensures a.bytes.now a.area.now c.if-bytes-written.false
     c.if-area-count.true
 
@@ -64,9 +66,9 @@ pub copy-requires : goal.copy-requires
 copy-requires c =
     let a = c.args in
     let r = holds a.after in
-    let (t, e, is) = told (goal.at.copy-requires c).In_ok-written in (
-      bytes_few a.n c.requires.n_nonzero.1 r c.requires.strict t e a.hours.now c.in_ok-written.written is,
-      bytes_size a.n c.requires.n_nonzero.1 r c.requires.strict t e a.hours.now c.in_ok-written.written is,
+    let (t, e, is) = told (goal.at.copy-requires c).In-Some in (
+      bytes_few a.n c.requires.n_nonzero.1 r c.requires.strict t e a.hours.now c.in-Some.written is,
+      bytes_size a.n c.requires.n_nonzero.1 r c.requires.strict t e a.hours.now c.in-Some.written is,
       c.if-bytes-written.false,
     )
 
@@ -77,7 +79,7 @@ write_pairs-requires-clause-inside c = inside (goal.at.write_pairs-requires-clau
 pub returns : goal.returns
 returns c =
     let a = c.args in
-    let (t, e, is) = told (goal.at.returns c).In_ok-written in
-    gives_0 a.n c.requires.n_nonzero.1 a.hours.now (holds a.after) c.requires.strict t e c.in_ok-written.written is c.reduced-reduced.result
+    let (t, e, is) = told (goal.at.returns c).In-Some in
+    gives_0 a.n c.requires.n_nonzero.1 a.hours.now (holds a.after) c.requires.strict t e c.in-Some.written is c.reduced-reduced.result
     c.reduced-reduced.ensures c.pair_count-count.result c.pair_count-count.ensures a.bytes.now a.area.now c.if-bytes-written.false
     c.if-area-count.false _ _ _ c.padded-all.ensures c.copy.ensures c.write_pairs.ensures
