@@ -43,8 +43,8 @@ impl Group {
     }
 }
 
-// The open groups around the present one, the outermost first, and how many there are: a list of a fixed length, since nothing is on the heap. The
-// present one goes by value.
+// The open groups around the present one, the outermost first, and how many there are: a list of a fixed length,
+// since nothing is on the heap. The present one goes by value.
 #[derive(Clone, Copy)]
 pub struct OuterGroups {
     depth: usize,
@@ -82,7 +82,8 @@ impl OuterGroups {
     }
 }
 
-// The open groups around the present one, and what is written of the jobs so far: the gang of each job, and the hours of each gang.
+// The open groups around the present one, and what is written of the jobs so far: the gang of each job, and the hours
+// of each gang.
 #[derive(Clone, Copy)]
 pub struct Numbering {
     outer: OuterGroups,
@@ -91,7 +92,8 @@ pub struct Numbering {
 }
 
 impl Numbering {
-    // One node more, by its token, a number as `Listed` has it: a leaf's job gets the gang of its place, a group is opened. The present group after it.
+    // One node more, by its token, a number as `Listed` has it: a leaf's job gets the gang of its place, a group is
+    // opened. The present group after it.
     fn take(&mut self, token: usize, jobs: &[u16; 128], present: Group) -> Group
         requires { AllBelow (2 ^ hours_bits) jobs.now × ((t : Tree) × (xs : List ℕ) × Ready t jobs.now (taken present self.old) (token ∷ xs)) }
         ensures { Takes token jobs.now (taken present self.old) (taken result self.new) }

@@ -21,8 +21,8 @@ fn later(jobs: &[u8]) -> [JobSet; 128]
     rows
 }
 
-// The table of the order that the first n entries of both sequences give, which have the same jobs, each once: the rows of the
-// first, each cut down to what stands later in the second.
+// The table of the order that the first n entries of both sequences give, which have the same jobs, each once: the
+// rows of the first, each cut down to what stands later in the second.
 pub fn order_of(forward: &[u8; 128], reverse: &[u8; 128], n: usize) -> [JobSet; 128]
     requires n_bound { (n ≤ 128) × (length forward.now ≡ 128) × (length reverse.now ≡ 128) }
     requires all_below { AllBelow 128 (take n forward.now) × ((u : ℕ) → occurrences u (take n forward.now) ≤ 1)

@@ -1,9 +1,11 @@
-//! The readers of groups. Inside a series group (document 01: a chain) stand leaves and parallel groups, inside a parallel
-//! group (a side group) leaves and series groups, so the two readers call each other, each over a reader of one child; from the one
-//! reader to the other the bits left fall. A record has fewer groups than jobs, so reading stops at a group too many.
+//! The readers of groups. Inside a series group (document 01: a chain) stand leaves and parallel groups, inside a
+//! parallel group (a side group) leaves and series groups, so the two readers call each other, each over a reader of
+//! one child; from the one reader to the other the bits left fall. A record has fewer groups than jobs, so reading
+//! stops at a group too many.
 //!
-//! The two are twins by need: one reader whose kind is an argument reads a record of small groups in 1.25 times the time, and of a
-//! reader with a const parameter, which would call itself at the other constant, the prover makes no proof.
+//! The two are twins by need: one reader whose kind is an argument reads a record of small groups in 1.25 times the
+//! time, and of a reader with a const parameter, which would call itself at the other constant, the prover makes no
+//! proof.
 ghost use Rattle.std.specs.Prelude.{◌<◌, ◌≡◌};
 ghost use Rattle.poset.specs.Tree.{series, parallel};
 ghost use Rattle.record.specs.Bits.{bits_of};
@@ -12,7 +14,8 @@ ghost use Rattle.reader.specs.Parts.{place, Ready, TreeRead, ChildRead, Children
 use crate::nodes::{Node, node_at};
 use crate::parts::{Lists, Part, outranks};
 
-// Where the next node begins. The two counts stay two arguments: with a struct of both a reading takes up to 1.15 times the time.
+// Where the next node begins. The two counts stay two arguments: with a struct of both a reading takes up to 1.15
+// times the time.
 pub fn place(done: u8, groups: u8) -> usize
     ensures { result ≡ place done groups }
 {
@@ -59,7 +62,8 @@ fn chain_child(bytes: &[u8], count: u8, done: u8, groups: u8, lists: &mut Lists)
     }
 }
 
-// `more` + 1 children of a side group, each going ahead of the next. Of the one read last it keeps how many jobs it has and the smallest.
+// `more` + 1 children of a side group, each going ahead of the next. Of the one read last it keeps how many jobs it
+// has and the smallest.
 #[cycle(groups)]
 fn side(bytes: &[u8], count: u8, more: u8, done: u8, groups: u8, lists: &mut Lists) -> Option<Part>
     requires { (more < 128) × Ready bytes.now count done groups lists.old }
@@ -109,7 +113,8 @@ fn side_child(bytes: &[u8], count: u8, done: u8, groups: u8, lists: &mut Lists) 
     }
 }
 
-// The tree after the job count. One that is no chain is read as the only child of one, so that the side reader is called from one place.
+// The tree after the job count. One that is no chain is read as the only child of one, so that the side reader is
+// called from one place.
 pub fn tree(bytes: &[u8], count: u8, lists: &mut Lists) -> Option<Part>
     requires { Ready bytes.now count 0 0 lists.old }
     ensures { TreeRead (bits_of bytes.now) count 0 0 lists.old lists.new result }

@@ -1,4 +1,5 @@
-//! A record read back: its job count, groups, sequences and hours, or its nodes, or that the bytes are no record; and the order of the sequences.
+//! A record read back: its job count, groups, sequences and hours, or its nodes, or that the bytes are no record; and
+//! the order of the sequences.
 
 #![tactic(auto)]
 
@@ -86,8 +87,9 @@ pub fn read_record(bytes: &[u8]) -> Option<Reading>
     })
 }
 
-// The job count, how many nodes the tree has, these in their order, node before children, as tokens (a leaf is its job; a group is 256,
-// 128 for a side group, and its children minus 1), and the hours of each job; the entries after them are 0.
+// The job count, how many nodes the tree has, these in their order, node before children, as tokens (a leaf is its
+// job; a group is 256, 128 for a side group, and its children minus 1), and the hours of each job; the entries after
+// them are 0.
 #[derive(Clone, Copy)]
 pub struct NodeList {
     pub jobs: usize,

@@ -34,8 +34,9 @@ pub fn field(bytes: &[u8], at: usize, width: usize) -> usize
     (pair(bytes, i) >> (16 - end)) % (1usize << width)
 }
 
-// The number in as many bits from `at` on as a leaf has, if there are so many: four bytes hold them, or the last three. The second pair
-// of the four is read first: with the pair that the three have too ahead of it, the compiler would not load the four at once.
+// The number in as many bits from `at` on as a leaf has, if there are so many: four bytes hold them, or the last
+// three. The second pair of the four is read first: with the pair that the three have too ahead of it, the compiler
+// would not load the four at once.
 fn leaf_at(bytes: &[u8], at: usize) -> Option<usize>
     requires { (at ≤ 8 * most_record_bytes) × (length bytes.now ≤ most_record_bytes) }
     ensures { LeafAt (bits_of bytes.now) at result }

@@ -4,8 +4,8 @@ ghost use Rattle.poset.specs.Tree.{outranks};
 ghost use Rattle.reader.specs.Parts.{kind_by, front, LeafRead, linked_part, linked_lists};
 ghost use Rattle.reader.specs.Whole.{Blank};
 
-// Of a part of a record: the leaves and the groups of the record up to its end, its smallest job, and the ends of its part of the reverse
-// sequence.
+// Of a part of a record: the leaves and the groups of the record up to its end, its smallest job, and the ends of its
+// part of the reverse sequence.
 #[derive(Clone, Copy)]
 pub struct Part {
     pub done: u8,
@@ -15,8 +15,8 @@ pub struct Part {
     pub last: u8,
 }
 
-// What is filled while a tree is read: a mark for each job that was named, the forward sequence, and for each job the one after it in the
-// reverse sequence, and its hours.
+// What is filled while a tree is read: a mark for each job that was named, the forward sequence, and for each job the
+// one after it in the reverse sequence, and its hours.
 #[derive(Drop)]
 pub struct Lists {
     pub seen: [u8; 128],
@@ -65,8 +65,8 @@ impl Lists {
         })
     }
 
-    // The children of a group that were read, and the next one: in the reverse sequence it follows those of a chain, and stands ahead of those of
-    // a side group.
+    // The children of a group that were read, and the next one: in the reverse sequence it follows those of a chain,
+    // and stands ahead of those of a side group.
     pub fn joined<const SERIES: bool>(&mut self, part: Part, child: Part) -> Part
         requires { (front (kind_by SERIES) part child).last < 128 }
         ensures value { result ≡ linked_part (kind_by SERIES) part child }
@@ -84,7 +84,8 @@ impl Lists {
     }
 }
 
-// Whether a child of a side group with so many jobs and this smallest one goes ahead of the next: most jobs first, of as many by the smallest.
+// Whether a child of a side group with so many jobs and this smallest one goes ahead of the next: most jobs first, of
+// as many by the smallest.
 pub fn outranks(size: u8, least: u8, jobs: u8, smallest: u8) -> bool
     ensures { result ≡ outranks size least jobs smallest }
 {
