@@ -15,8 +15,9 @@ use relation::set::JobSet;
 use relation::{order, reduction};
 use writer::writing;
 
-// A strict order: its first N, or how much its record and its reduced orders take. The steps are those of the analysis;
-// handed back from a function for both, in a Result, the tables are copied, and small sheets took 1.3 to 1.5 times as long.
+// A strict order: its first N, or how much its record and its reduced orders take. The steps are those of the
+// analysis; handed back from a function for both, in a Result, the tables are copied, and small sheets took 1.3 to
+// 1.5 times as long.
 fn of_order(after: [JobSet; 128], n: usize, hours: &[u16]) -> Result<Accepted, Refusal>
     requires n_nonzero { (0 < n) × (n ≤ 128) }
     requires strict { Strict n (holds after) }
