@@ -9,8 +9,6 @@ ghost use Rattle.reader.specs.Nodes.{Listed, Step, Fits};
 ghost use Rattle.longest.specs.Longest.{WorkRun};
 ghost use Rattle.longest.specs.Stack.{Beside, Joins, Stacked, Stacks, run_at};
 
-use record::Token;
-
 // The hours together, and the ends of the run.
 #[derive(Clone, Copy)]
 pub struct Run {
@@ -61,29 +59,28 @@ impl Stack {
         self.top = end;
     }
 
-    // One node more, by its token: the run of a leaf goes on top, that of a group takes the place of its children's.
-    fn take(&mut self, token: u16, hours: &[u16; 128])
+    // One node more, by its token, a number as `Step` has it: the run of a leaf goes on top, that of a group takes
+    // the place of its children's.
+    // Taken apart by number: with a match on `record::Token` a call takes up to 1.13 times the time.
+    fn take(&mut self, token: usize, hours: &[u16; 128])
         requires { AllBelow (2 ^ hours_bits) hours.now × ((ts us : List Tree) × Step token ts us × Fits us
             × Stacked (hours_of hours.now) ts self.old) }
         ensures { Stacks token (hours_of hours.now) self.old self.new }
     {
-        match Token::from(token) {
-            Token::Leaf(job) => {
-                self.top -= 1;
-                self.runs[self.top] = Run {
-                    total: u32::from(hours[usize::from(job)]),
-                    first: job,
-                    last: job,
-                };
-            }
-            Token::Chain(more) => {
-                let end = self.top + usize::from(more);
-                self.chain(end);
-            }
-            Token::Side(more) => {
-                let end = self.top + usize::from(more);
-                self.side(end);
-            }
+        if token < 256 {
+            self.top -= 1;
+            self.runs[self.top] = Run {
+                total: u32::from(hours[token]),
+                first: token as u8,
+                last: token as u8,
+            };
+            return;
+        }
+        let end = self.top + token % 128;
+        if token < 384 {
+            self.chain(end);
+        } else {
+            self.side(end);
         }
     }
 
@@ -102,7 +99,7 @@ impl Stack {
             next: [0; 128],
         };
         for token in nodes.iter().rev() {
-            stack.take(*token, hours);
+            stack.take(usize::from(*token), hours);
         }
         stack
     }

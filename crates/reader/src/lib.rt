@@ -33,7 +33,8 @@ pub struct Reading {
     pub hours: [u16; 128],
 }
 
-// The `count` jobs from `first` on, each followed by its next.
+// The `count` jobs from `first` on, each followed by its next. Written by index: of a part of an array that is written
+// through an iterator a proof knows no element.
 fn in_turn(next: &[u8; 128], first: usize, count: usize) -> [u8; 128]
     requires { (count ≤ 128) × AllBelow 128 (walk next.now count first) }
     ensures { result ≡ padded (walk next.now count first) }

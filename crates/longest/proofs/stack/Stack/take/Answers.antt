@@ -23,42 +23,39 @@ opened-at : (k : Kind) (s : Start) → IsGroup k s.args.token → (ts us : List 
 opened-at k s g = taken_group _ _ _ k s.args.token g
 
 pub overflow_sub-self : goal.overflow_sub-self
-overflow_sub-self c = (leaf-of (goal.at.overflow_sub-self c).Start c.in-Leaf.ensures.0).1
+overflow_sub-self c = (leaf-of (goal.at.overflow_sub-self c).Start c.if-token-lt256.true).1
 
-pub bounds-hours-from : goal.bounds-hours-from
-bounds-hours-from c =
-    rw (c.from-in-Leaf.ensures, c.in-Leaf.ensures.1) (leaf-of (goal.at.bounds-hours-from c).Start c.in-Leaf.ensures.0).0
+pub bounds-hours-token : goal.bounds-hours-token
+bounds-hours-token c = (leaf-of (goal.at.bounds-hours-token c).Start c.if-token-lt256.true).0
 
-pub returns-in-Leaf : goal.returns-in-Leaf
-returns-in-Leaf c =
+pub returns-then-token-lt256 : goal.returns-then-token-lt256
+returns-then-token-lt256 c =
     let a = c.args in λ ts us step fits stacked.
-    rw (c.from-in-Leaf-2.ensures, c.from-in-Leaf.ensures, c.in-Leaf.ensures.1)
-    (taken_leaf (hours_of a.hours.now) (hours_most a.hours.now c.requires.0) a.self.now a.token c.in-Leaf.ensures.0 ts us step fits stacked).2
+    rw c.from.ensures
+    (taken_leaf (hours_of a.hours.now) (hours_most a.hours.now c.requires.0) a.self.now a.token c.if-token-lt256.true ts us step fits stacked).2
 
 pub chain-requires : goal.chain-requires
 chain-requires c =
     let s = (goal.at.chain-requires c).Start in
     let (ts, us, step, fits, stacked) = s.requires.1 in
-    let o = opened-at series s (c.in-Chain.ensures.0, c.in-Chain.ensures.1) ts us step fits stacked in
-    rw (c.from-in-Chain.ensures, c.in-Chain.ensures.2) (o.children, o.beside)
+    let o = opened-at series s (c.if-token-lt256.false, c.if-token-lt384.true) ts us step fits stacked in
+    (o.children, o.beside)
 
 pub side-requires : goal.side-requires
 side-requires c =
     let s = (goal.at.side-requires c).Start in
     let (ts, us, step, fits, stacked) = s.requires.1 in
-    let o = opened-at parallel s c.in-Side.ensures.0 ts us step fits stacked in
-    rw (c.from-in-Side.ensures, c.in-Side.ensures.1) (o.children, o.beside)
+    let o = opened-at parallel s c.if-token-lt384.false ts us step fits stacked in
+    (o.children, o.beside)
 
-pub returns-in-Chain : goal.returns-in-Chain
-returns-in-Chain c =
-    let s = (goal.at.returns-in-Chain c).Start in
-    let joins = rw (c.from-in-Chain.ensures, c.in-Chain.ensures.2) at c.chain.ensures in λ ts us step fits stacked.
-    let o = opened-at series s (c.in-Chain.ensures.0, c.in-Chain.ensures.1) ts us step fits stacked in
-    o.closed _ (joins o.children o.beside)
+pub returns-then-token-lt384 : goal.returns-then-token-lt384
+returns-then-token-lt384 c =
+    let s = (goal.at.returns-then-token-lt384 c).Start in λ ts us step fits stacked.
+    let o = opened-at series s (c.if-token-lt256.false, c.if-token-lt384.true) ts us step fits stacked in
+    o.closed _ (c.chain.ensures o.children o.beside)
 
-pub returns-in-Side : goal.returns-in-Side
-returns-in-Side c =
-    let s = (goal.at.returns-in-Side c).Start in
-    let joins = rw (c.from-in-Side.ensures, c.in-Side.ensures.1) at c.side.ensures in λ ts us step fits stacked.
-    let o = opened-at parallel s c.in-Side.ensures.0 ts us step fits stacked in
-    o.closed _ (joins o.children o.beside)
+pub returns-else-token-lt384 : goal.returns-else-token-lt384
+returns-else-token-lt384 c =
+    let s = (goal.at.returns-else-token-lt384 c).Start in λ ts us step fits stacked.
+    let o = opened-at parallel s c.if-token-lt384.false ts us step fits stacked in
+    o.closed _ (c.side.ensures o.children o.beside)
