@@ -33,8 +33,8 @@ impl Stack {
         ensures { Joins series end self.old self.new }
     {
         let mut whole = self.runs[end];
-        // by entry: a loop over `self.runs` that writes `self.next` is not covered by the prover; and by field, since a whole run is read slower just
-        // after it is written
+        // by entry: a loop over `self.runs` that writes `self.next` is not covered by the prover; and by field, since
+        // a whole run is read slower just after it is written
         for k in (self.top..end).rev() {
             self.next[usize::from(self.runs[k].last)] = whole.first;
             whole.first = self.runs[k].first;
