@@ -7,7 +7,7 @@ ghost use Rattle.relation.specs.Table.{bit, has, members, Least, Greatest};
 use std::marker::Model;
 
 // A set of jobs.
-#[derive(Clone, Copy)]
+#[derive(Clone, Copy, PartialEq, Eq)]
 pub struct JobSet {
     words: [u64; 2],
 }
