@@ -1,4 +1,6 @@
 //! What is looked for in the closure of a table, and a table turned round.
+//! A table and its n stay apart, here and in what takes tables, with their bounds as clauses: in a struct with these as
+//! its invariant the rows are copied in and out, and the smallest sheets took 1.05 to 1.09 times as long.
 ghost use Rattle.std.specs.Prelude.{ℕ, ◌≤◌, ◌≡◌};
 ghost use Rattle.poset.specs.Order.{first_on_cycle_of};
 ghost use Rattle.relation.specs.Table.{holds, Inside};
