@@ -35,7 +35,7 @@ pub fn hours(n: u16, hours: &[u16]) -> Result<(), Refusal>
 
 // A count and arcs that are within their limits, and hours. The areas are two parameters: a struct of both would lend
 // two `&mut`, and what is left in each would be said no plainer.
-pub fn of_lists(
+pub(crate) fn of_lists(
     list: &[u16],
     n: u16,
     hours: &[u16],

@@ -71,7 +71,7 @@ fn take_apart(
 }
 
 // The order of arcs that name jobs below n alone.
-pub fn of_arcs(
+pub(crate) fn of_arcs(
     list: &[u16],
     n: usize,
     hours: &[u16],
