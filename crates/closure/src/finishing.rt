@@ -71,7 +71,7 @@ fn finish(
 // The rows of a job that is left and of all that it leads to, if no cycle is met. A job waits on a stack until the
 // rows of all that its arcs lead to are finished; an arc to itself or to a job on the stack is part of a cycle.
 // Whether none is met; `left` then has the jobs still left: in an Option they make the closure up to an eighth
-// slower.
+// slower. The stack is a lent list of 128, and `depth`: fixed memory, no heap.
 fn follow(
     t: &[JobSet; 128],
     made: &mut [JobSet; 128],

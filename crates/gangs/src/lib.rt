@@ -9,6 +9,7 @@ ghost use Rattle.gangs.specs.Outcome.{gang_outcome, Shows};
 use analysis::Refusal;
 
 // How many gangs, the hours of each gang's jobs together, and the gang of each job; the entries after them are 0.
+// Lists with a count: fixed memory, no heap.
 #[derive(Clone, Copy)]
 pub struct GangPlan {
     pub count: usize,

@@ -66,6 +66,7 @@ impl OuterGroups {
     }
 
     // On to the next child of the present group, or of the nearest around it that has one to come.
+    // A `while`: it leaves groups until one has a child to come, and ends early at the outermost.
     fn go_on(&mut self, present: Group) -> Group
         requires { (t : Tree) × (o : Open) × (os : List Open) × Done t (open_groups present self.old) o os }
         ensures { (t : Tree) (o : Open) (os : List Open) → Done t (open_groups present self.old) o os

@@ -10,6 +10,7 @@ ghost use Rattle.longest.specs.Outcome.{run_outcome, Shows};
 use analysis::Refusal;
 
 // The total of hours, how many jobs the run has, and these, earliest first; the entries after them are 0.
+// A list with a count: fixed memory, no heap.
 #[derive(Clone, Copy)]
 pub struct LongestRun {
     pub total: usize,

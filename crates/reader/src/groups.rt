@@ -23,6 +23,7 @@ pub fn place(done: u8, groups: u8) -> usize
 }
 
 // `more` + 1 children of a chain.
+// Here and below `bytes` and `count` stay two arguments: a struct of a record's bytes and jobs names them no better.
 #[cycle(groups)]
 fn chain(bytes: &[u8], count: u8, more: u8, done: u8, groups: u8, lists: &mut Lists) -> Option<Part>
     requires { (more < 128) × Ready bytes.now count done groups lists.old }

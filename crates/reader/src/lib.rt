@@ -24,6 +24,7 @@ use parts::{Lists, Part};
 use record::{NODE_ROOM, RECORD_ROOM};
 
 // The job count, the number of groups, the sequences and the hours of each job, whose entries from the count on are 0.
+// Lists with a count: fixed memory, no heap.
 #[derive(Clone, Copy)]
 pub struct Reading {
     pub count: usize,
@@ -90,7 +91,7 @@ pub fn read_record(bytes: &[u8]) -> Option<Reading>
 
 // The job count, how many nodes the tree has, these in their order, node before children, as tokens (a leaf is its
 // job; a group is 256, 128 for a side group, and its children minus 1), and the hours of each job; the entries after
-// them are 0.
+// them are 0. Lists with a count: fixed memory, no heap.
 #[derive(Clone, Copy)]
 pub struct NodeList {
     pub jobs: usize,

@@ -9,6 +9,7 @@ use record::{LEAF_BITS, NODE_ROOM};
 
 // The `count` nodes of a record, as tokens. Where a node begins, 9 bits are a group's token, or 8 bits of a leaf, its
 // job, and one of its hours.
+// Tokens as numbers, 16 bits a node, as `listing` has them; from a `record::Token` no way leads back to a number.
 pub fn list_nodes(bytes: &[u8], count: usize) -> [u16; NODE_ROOM]
     requires { (t : Tree) × HasNodes bytes.now count t }
     ensures { (t : Tree) → HasNodes bytes.now count t → result ≡ listing (tokens t) }

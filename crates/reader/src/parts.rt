@@ -17,6 +17,7 @@ pub struct Part {
 
 // What is filled while a tree is read: a mark for each job that was named, the forward sequence, and for each job the
 // one after it in the reverse sequence, and its hours.
+// `seen` has a byte a job, 1 for one that was named, as `LeafRead`, `Free` and `Blank` speak of it.
 #[derive(Drop)]
 pub struct Lists {
     pub seen: [u8; 128],

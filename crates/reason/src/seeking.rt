@@ -23,6 +23,7 @@ pub enum Mark {
 
 impl Mark {
     // With one job more ahead.
+    // Here and below the two jobs are two arguments: `marked`, `Takes`, `Sought` and `Decided` have them so.
     fn with(self, job: usize, first: usize, second: usize) -> Mark
         ensures { mark_number result ≡ marked first second job (mark_number self) }
     {

@@ -24,6 +24,7 @@ fn numbers(rt: &impl Print, list: &[u16]) -> io::Result<()> {
 }
 
 // No hours: they have at most four digits.
+// A number, no Option: `read_sheet` fills a list of 16-bit numbers, and which of them it writes is what is told.
 const BARE: u16 = 10000;
 
 // How many of the list's numbers there are up to the last that is not BARE.

@@ -17,6 +17,7 @@ fn told(answer: io::Result<usize>, done: usize) -> io::Result<usize>
 }
 
 // One read more. The first `done` bytes stay.
+// `buf` and `done` stay two arguments: a struct of a buffer and how far it is filled would name them no better.
 fn read_more<R: Read>(input: &mut R, buf: &mut [u8], done: usize) -> io::Result<usize>
     requires { done ≤ length buf.old }
     ensures { MoreRead done buf.old buf.new result }

@@ -54,6 +54,7 @@ fn moved_if_full(bytes: &mut [u8; record::RECORD_ROOM], p: Packing) -> Packing
 }
 
 // One field more: a leaf with its job's hours, or a group.
+// The field is a number, as `field_bits` has it: its bits go into the record as they are.
 fn put_field(
     bytes: &mut [u8; record::RECORD_ROOM],
     p: Packing,

@@ -65,6 +65,7 @@ fn part_of(near: &[JobSet; 128], s: Block, x: usize, number: u8, numbers: &mut [
 
 // A job of s that no job of s is before. From the smallest job down by the largest ahead of it: few steps where the
 // jobs are numbered forwards or backwards.
+// A `while`: nothing is counted over a list; the job that is found tells which are ahead of it in turn.
 fn first_of(order: &Compared, s: Block) -> usize
     requires { exists (has s) (below 128) ≡ true }
     ensures { First (holds order.now.under.now) s result }
@@ -102,6 +103,7 @@ pub struct Parts {
 
 impl Parts {
     // The parts of s under a relation, as they are found one after another, and how many there are.
+    // A `while`: nothing is counted over a list; what is left by the part that is found tells where the next begins.
     fn split(&mut self, near: &[JobSet; 128], order: &Compared, series: bool, s: Block) -> usize
         ensures cut { Cut (holds near.now) (holds order.now.under.now) series s self.new.list result }
         ensures numbered { Numbered s self.new.list result self.old.numbers self.new.numbers }

@@ -6,6 +6,7 @@ ghost use Rattle.writer.specs.Stack.{held, jobs_of, start_at, opened};
 use crate::block::Block;
 
 // A set of jobs, where it begins in the reverse sequence, and whether it is to become a series group.
+// `series` is a bool, not an enum: `start_at`, `close_of` and `laid_out` speak of a Bool.
 #[derive(Clone, Copy)]
 pub struct Entry {
     pub set: Block,

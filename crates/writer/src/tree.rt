@@ -19,6 +19,7 @@ use record::NODE_ROOM;
 use relation::set::JobSet;
 
 // The field of a group: 256, 128 for a parallel group, and its children minus 1.
+// A number, made of a bool, as `group_field_of` says it; `Shape` has 16 bits a field.
 fn group_field(series: bool, children: usize) -> u16
     requires { (0 < children) × (children ≤ 128) }
     ensures { result ≡ group_field_of series (children - 1) }
@@ -30,7 +31,7 @@ fn group_field(series: bool, children: usize) -> u16
     }
 }
 
-// A tree: its fields and groups, and the two sequences.
+// A tree: its fields and groups, and the two sequences. Lists with a count: fixed memory, no heap.
 #[derive(Clone, Copy)]
 pub struct Shape {
     pub fields: [u16; NODE_ROOM],

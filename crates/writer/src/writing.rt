@@ -10,7 +10,7 @@ ghost use Rattle.writer.specs.Written.{written};
 use crate::{pack, tree};
 use relation::set::JobSet;
 
-// The bytes of a record, how many there are, the groups, and the two sequences.
+// The bytes of a record, how many there are, the groups, and the two sequences. Fixed memory, no heap.
 #[derive(Clone, Copy)]
 pub struct Written {
     pub bytes: [u8; record::RECORD_ROOM],
