@@ -1,7 +1,7 @@
 -- The search from a job: what holds at each of its steps.
 use Prim.Native.Nat.{ℕ, ◌+◌, ◌-◌, ◌*◌, ◌^◌, ◌≤◌, ◌<◌}
 use native.Mathlib.Omega.{arith}
-use mathlib.Core.Path.{◌≡◌, sym, ap, ◌∙◌}
+use mathlib.Core.Path.{◌≡◌, sym, ◌∙◌}
 use mathlib.Core.List.{List}
 use mathlib.Core.Bool.{true, false, ◌&&◌, ◌||◌, not}
 use lib.Dec.{eqb}
@@ -12,7 +12,7 @@ use Rattle.poset.proofs.Laws.{clash, false_unless, and_left, and_right, and_intr
 use Rattle.relation.specs.Table.{has, members, Greatest}
 use Rattle.closure.specs.Rows.{Rows, Cyclic}
 use Rattle.closure.proofs.Onward.{joins_small}
-use Rattle.closure.proofs.Waiting.{Way, members_small, members_but, along_stack, way_none, way_here, way_room, way_cycle, way_known, way_push, way_pop}
+use Rattle.closure.proofs.Waiting.{Way, members_small, members_but, way_none, way_here, way_room, way_cycle, way_known, way_push, way_pop}
 
 -- the rows made so far: a job that is left is one of 128, and the joins of one row more do not overflow
 module _ {r : Rel} {made : List (List ℕ)} {left : List ℕ} {joins : ℕ} (rows : (n : ℕ) × Rows n r made left joins) where
@@ -62,10 +62,6 @@ module _ {r : Rel} {made₀ : List (List ℕ)} {left₀ : List ℕ} {joins₀ : 
 
     pub search_depth : depth < 128
     search_depth = omega (arith, deep, members_small left)
-
-    -- a number of the stack is that of a job
-    pub search_job : (i : ℕ) → i < depth → get_or stack i 0 < 128
-    search_job i l = job _ (ap (has left) (sym (along_stack stack at depth i l)) ∙ s.way.waiting i (omega arith))
 
     -- a step on
     pub push_less : remaining left (depth + 1) < remaining left depth

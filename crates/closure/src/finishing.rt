@@ -112,13 +112,14 @@ fn follow(
                 return true;
             }
             depth -= 1;
-            at = stack[depth] as usize;
+            at = usize::from(stack[depth]);
         }
     }
 }
 
 // All rows into a table of empty ones, and the joins that they take, if there is no cycle; a job with no arc has its
-// row already. Whether there is no cycle.
+// row already. Whether there is no cycle. The count goes into a lent number: in an Option or a struct beside the rows
+// the closure is up to an eighth slower.
 pub fn finish_all(t: &[JobSet; 128], made: &mut [JobSet; 128], n: usize, joins: &mut usize) -> bool
     requires n_bound { (n ≤ 128) × (length made.old ≡ 128) }
     requires inside { Inside n t.now }

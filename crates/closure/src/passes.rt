@@ -101,7 +101,8 @@ fn range(t: &[JobSet; 128], n: usize) -> JobSet
 }
 
 // The transitive closure among the jobs below n, and how many joins it takes. Within, a column of words lies
-// together, for several rows at a time. A pass through a job that no job is before would change nothing.
+// together, for several rows at a time. A pass through a job that no job is before would change nothing. The count
+// goes into a lent number: in an Option or a struct beside the rows the closure is up to an eighth slower.
 pub fn passed(t: &[JobSet; 128], n: usize, joins: &mut usize) -> [JobSet; 128]
     requires n_bound { n ≤ 128 }
     requires inside { Inside n t.now }

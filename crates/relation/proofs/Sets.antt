@@ -5,7 +5,7 @@ use native.Mathlib.Decide.{dec_lt, ℕ_discrete}
 use native.Mathlib.Omega.{arith}
 use mathlib.Core.Path.{◌≡◌, refl, sym, ap, ap₂, subst, ◌∙◌}
 use mathlib.Core.List.{List, [], ◌∷◌, ◌++◌, map, append-nil, Memᴰ}
-use mathlib.Core.Bool.{Bool, true, false, ◌&&◌, ◌||◌, not, xor}
+use mathlib.Core.Bool.{Bool, true, false, ◌&&◌, ◌||◌, not}
 use mathlib.Core.Logic.{◌⊎◌, inl, inr, ⊎_elim}
 use mir.Syntax.{w64}
 use mir.Val.{Fits}
@@ -16,7 +16,7 @@ use lib.Bits.{bit_and, bit_or, or_add_and, and_le_l, and_le_r}
 use lib.Count.{count_trailing_zeros, count_leading_zeros, ones, ones-le}
 use borrow.Author.Tests.{lt-ltb, le-ltb, eq-eqb, ne_eqb, ltb-true, eqb-true}
 use Rattle.poset.specs.Lists.{exists, keep, up_from, below}
-use Rattle.poset.proofs.Laws.{clash, false_unless, not-true, same_test, any_hit, any_found, any_miss, any_none}
+use Rattle.poset.proofs.Laws.{clash, false_unless, same_test, any_hit, any_found, any_miss, any_none}
 use Rattle.poset.proofs.Laws.{keep_yes, keep_not, keep_mem, mem_keep, keep_agree, below_mem, mem_below, mem_up_from, below_add}
 use Rattle.relation.specs.Table.{bit, has, members, Least, Greatest}
 use Rattle.relation.proofs.Lists.{and-true, and_false, and_comm, or-false, keep_append, keep_none, keep_shift, keep_from}
@@ -49,26 +49,6 @@ has_small s n v e = elim (dec_lt v 128) [ yes l ↦ l | no l ↦ absurd (clash e
 -- a row with no job below 128 has none
 pub has_none : (s : List ℕ) → length s ≡ 2 → exists (has s) (below 128) ≡ false → (v : ℕ) → has s v ≡ false
 has_none s n h v = false_unless _ (λ e. clash e (any_miss (has s) (below 128) h (below_mem (has_small s n v e))))
-
--- a job in one of two rows alone
-
-pub in_one_alone : (a b : Bool) → ((a && not b) || (b && not a)) ≡ xor a b
-unfolding xor
-in_one_alone true true = refl
-in_one_alone true false = refl
-in_one_alone false true = refl
-in_one_alone false false = refl
-
-in_both : (a b : Bool) → xor a b ≡ false → a ≡ b
-unfolding xor
-in_both true true h = refl
-in_both true false h = h
-in_both false true h = sym h
-in_both false false h = refl
-
-pub same_jobs : (a b : List ℕ) → not (exists (λ v. xor (has a v) (has b v)) (below 128)) ≡ true → (v : ℕ) → v < 128 → has a v ≡ has b v
-same_jobs a b h v l =
-    in_both _ _ (any_miss (λ x. xor (has a x) (has b x)) (below 128) (not-true _ h) (below_mem l))
 
 -- a test of a job's bit in its word
 pub has_tested

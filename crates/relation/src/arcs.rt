@@ -71,8 +71,8 @@ fn put(t: &mut [JobSet; 128], arcs: &[u16], k: usize)
     ensures { (u v : ℕ) → holds t.new u v ≡ (holds t.old u v
         || (eqb (get_or arcs.now (2 * k) 0) u && eqb (get_or arcs.now (2 * k + 1) 0) v)) }
 {
-    let u = arcs[2 * k] as usize;
-    let v = arcs[2 * k + 1] as usize;
+    let u = usize::from(arcs[2 * k]);
+    let v = usize::from(arcs[2 * k + 1]);
     t[u].insert(v);
 }
 

@@ -31,7 +31,7 @@ pub fn domain(t: &[JobSet; 128], n: usize) -> JobSet
 }
 
 // The jobs that are after some job after u. Nothing is added by a job outside the domain, nor by one that is found
-// already. No loop over the members: a step takes the first and the last, and leaves out what both have found.
+// already. Not one member after the other: a step takes the first and the last, and leaves out what both have found.
 fn beyond(t: &[JobSet; 128], dom: JobSet, u: usize, n: usize) -> JobSet
     requires n_bound { (n ≤ 128) × (u < n) }
     requires strict { Strict n (holds t.now) }

@@ -1,6 +1,5 @@
 //! Sets of the jobs below 128, two words each: job v is bit v % 64 of word v / 64.
 ghost use Rattle.std.specs.Prelude.{◌≡◌, ℕ, ◌<◌, ◌≤◌, List, true, false, ◌&&◌, ◌||◌, not, eqb, ltb, length, MatchOption};
-ghost use Rattle.std.specs.Bool.{xor};
 ghost use Rattle.poset.specs.Lists.{exists, below};
 ghost use Rattle.relation.specs.Table.{bit, has, members, Least, Greatest};
 
@@ -42,7 +41,8 @@ impl JobSet {
     pub fn words(self) -> [u64; 2]
         ensures { result ≡ self }
     {
-        self.words
+        let [low, high] = self.words;
+        [low, high]
     }
 
     // The set of one job.
@@ -152,16 +152,6 @@ impl JobSet {
         self.words[0] | self.words[1] != 0
     }
 
-    // Whether two sets have the same members.
-    pub fn same(self, other: Self) -> bool
-        ensures { result ≡ not (exists (λ v. xor (has self v) (has other v)) (below 128)) }
-    {
-        !self
-            .difference(other)
-            .union(other.difference(self))
-            .inhabited()
-    }
-
     pub fn smallest(self) -> usize
         requires { exists (has self) (below 128) ≡ true }
         ensures { Least self result }
@@ -202,7 +192,7 @@ impl JobSet {
 
     // Takes the smallest member out, if there is one.
     pub fn pop_first(&mut self) -> Option<usize>
-        ensures { MatchOption result (exists (has self.old) (below 128) ≡ false)
+        ensures { MatchOption result ((exists (has self.old) (below 128) ≡ false) × (self.new ≡ self.old))
             (λ v. Least self.old v × ((x : ℕ) → has self.new x ≡ (has self.old x && exists (has self.old) (below x)))) }
     {
         if !self.inhabited() {

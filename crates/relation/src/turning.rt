@@ -101,7 +101,8 @@ fn across_words(t: &mut [JobSet; 128])
     }
 }
 
-// Step e on the rows below 2^w: a loop for each e, in which the distances are fixed.
+// Step e on the rows below 2^w. A match on the digit: a loop for each, so that its distances are fixed, which the
+// compiler needs for several rows at a time.
 pub fn step(t: &mut [JobSet; 128], e: usize, w: usize)
     requires e_lt_w { (e < w) × (w ≤ 7) × (length t.old ≡ 128) }
     requires until { Until (2 ^ w) t.old }

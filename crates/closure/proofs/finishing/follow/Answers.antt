@@ -7,7 +7,7 @@ use lib.Dec.{eqb}
 use Rattle.poset.proofs.Laws.{clash}
 use Rattle.relation.specs.Table.{has, holds}
 use Rattle.relation.proofs.Tables.{has_blank, row_read}
-use Rattle.closure.proofs.Search.{search_none, search_here, search_rows, search_at, search_depth, search_job, push_less}
+use Rattle.closure.proofs.Search.{search_none, search_here, search_rows, search_at, search_depth, push_less}
 use Rattle.closure.proofs.Search.{search_cycle, search_push, search_last, leave_less, search_less, search_made, search_pop}
 use Rattle.closure.proofs.finishing.follow.Goals.{At-loop-more, After-union-more}
 use Rattle.closure.proofs.finishing.follow.Goals as goal
@@ -101,9 +101,6 @@ returns-then-depth-eq0 c =
 pub bounds-stack-depth-else-inhabited : goal.bounds-stack-depth-else-inhabited
 bounds-stack-depth-else-inhabited c = omega (arith, search_depth c.requires.by_index c.loop-more.invariant)
 
-pub overflow_cast-at : goal.overflow_cast-at
-overflow_cast-at c = omega (arith, search_job c.requires.by_index c.loop-more.invariant (c.loop-more.depth - 1) (omega arith))
-
 pub loop-more-smaller : goal.loop-more-smaller
 loop-more-smaller c =
     leave_less c.requires.by_index c.loop-more.invariant _ c.finish-jobs.ensures.by_index_3 (c.loop-more.depth - 1) (omega arith)
@@ -111,4 +108,5 @@ loop-more-smaller c =
 pub loop-more-preserved : goal.loop-more-preserved
 loop-more-preserved c =
     let e = c.finish-jobs.ensures in
-    search_pop c.requires.by_index c.loop-more.invariant _ e.by_index_3 _ e.made_len_2 _ e.by_index_4 (c.loop-more.depth - 1) (omega arith)
+    rw c.from-at.ensures
+    (search_pop c.requires.by_index c.loop-more.invariant _ e.by_index_3 _ e.made_len_2 _ e.by_index_4 (c.loop-more.depth - 1) (omega arith))

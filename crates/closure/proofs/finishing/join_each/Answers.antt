@@ -35,5 +35,5 @@ pub returns : goal.returns
 returns c =
     let l = c.loop-v in
     let a = c.args in
-    let e = joined_end a.rows.now a.row a.jobs a.joins.now l.whole l.rest l.joins l.invariant c.in_default.ensures in
+    let e = joined_end a.rows.now a.row a.jobs a.joins.now l.whole l.rest l.joins l.invariant c.in_default.ensures.0 in
     record { by_index = e.0; joins_after = e.1 }

@@ -12,12 +12,6 @@ use Rattle.relation.proofs.arcs.put.Goals as goal
 jobs : (c : goal.Start) → (get_or c.args.arcs.now (2 * c.args.k) 0 < 128) × (get_or c.args.arcs.now (2 * c.args.k + 1) 0 < 128)
 jobs c = c.requires.within _ (pairs_at c.args.arcs.now c.args.k c.requires.k_in_bounds)
 
-pub overflow_cast-u : goal.overflow_cast-u
-overflow_cast-u c = omega (arith, jobs (goal.at.overflow_cast-u c).Start)
-
-pub overflow_cast-v : goal.overflow_cast-v
-overflow_cast-v c = omega (arith, jobs (goal.at.overflow_cast-v c).Start)
-
 pub offset_bounds-t-u : goal.offset_bounds-t-u
 offset_bounds-t-u c = omega (arith, jobs (goal.at.offset_bounds-t-u c).Start)
 
@@ -37,4 +31,4 @@ returns c =
     let u = get_or xs (2 * c.args.k) 0 in
     let l : u < length t = omega (arith, jobs (goal.at.returns c).Start) in
     let e = get_or_default t u c.index-t-u.result [] l in
-    put_row xs t c.args.k _ l (rw e at c.insert.ensures)
+    rw (c.from-u.ensures) (put_row xs t c.args.k _ l (rw (c.from-u.ensures, c.from-v.ensures, e) at c.insert.ensures))

@@ -48,5 +48,5 @@ pub returns : goal.returns
 returns c =
     let l = c.loop-v in
     let a = c.args in
-    let e = lined_end a.u a.at a.jobs a.area.now l.area l.k l.rest l.invariant c.in_default.ensures in
+    let e = lined_end a.u a.at a.jobs a.area.now l.area l.k l.rest l.invariant c.in_default.ensures.0 in
     record { value = e.0; area_after = e.1 }

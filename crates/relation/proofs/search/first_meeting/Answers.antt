@@ -43,4 +43,4 @@ pub returns : goal.returns
 returns c =
     let l = c.loop-c in
     let a = c.args in
-    sought_end (meeting (holds a.t.now) a.ds) (members a.cs) l.rest l.invariant c.in_default.ensures
+    sought_end (meeting (holds a.t.now) a.ds) (members a.cs) l.rest l.invariant c.in_default.ensures.0

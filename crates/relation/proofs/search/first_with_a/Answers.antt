@@ -43,4 +43,4 @@ pub returns : goal.returns
 returns c =
     let l = c.loop-b in
     sought_end (at_b c.args.n (holds c.args.after.now) c.args.a) (below c.args.n) l.bs l.invariant.sought
-    c.in_default.ensures
+    c.in_default.ensures.0

@@ -18,4 +18,4 @@ loop-y-preserved c =
 pub returns : goal.returns
 returns c =
     let l = c.loop-y in
-    marking_end c.args.jobs c.args.number c.args.numbers.now l.rest l.numbers l.invariant c.requires c.in_default.ensures
+    marking_end c.args.jobs c.args.number c.args.numbers.now l.rest l.numbers l.invariant c.requires c.in_default.ensures.0
