@@ -49,9 +49,9 @@ pub fn bench_joins(arcs: &[u16], n: u16, again: u16) -> usize
     }
     let table = arcs::table_of(arcs);
     let mut joins = 0;
-    closure::transitive_closure(table, n as usize, &mut joins);
+    closure::transitive_closure(table, usize::from(n), &mut joins);
     for _ in 0..again {
-        closure::transitive_closure(table, n as usize, &mut joins);
+        closure::transitive_closure(table, usize::from(n), &mut joins);
     }
     joins
 }
@@ -66,9 +66,9 @@ pub fn bench_passes(arcs: &[u16], n: u16, again: u16) -> usize
     }
     let table = arcs::table_of(arcs);
     let mut joins = 0;
-    passes::passed(&table, n as usize, &mut joins);
+    passes::passed(&table, usize::from(n), &mut joins);
     for _ in 0..again {
-        passes::passed(&table, n as usize, &mut joins);
+        passes::passed(&table, usize::from(n), &mut joins);
     }
     joins
 }
@@ -82,7 +82,7 @@ pub fn bench_reduce(arcs: &[u16], n: u16, area: &mut [u8]) -> usize
     if !fits(arcs, n) {
         return 0;
     }
-    let jobs = n as usize;
+    let jobs = usize::from(n);
     let after = closed(arcs, jobs);
     if !acyclic(after, jobs) {
         return 0;
@@ -118,6 +118,6 @@ pub fn bench_first_n(arcs: &[u16], n: u16) -> u64
     if !fits(arcs, n) {
         return 0x1_0000_0000;
     }
-    let after = closed(arcs, n as usize);
-    searched(after, n as usize)
+    let after = closed(arcs, usize::from(n));
+    searched(after, usize::from(n))
 }

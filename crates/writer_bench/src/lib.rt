@@ -55,7 +55,7 @@ pub extern "C" fn bench_write(arcs: &[u16], n: u16, rounds: usize) -> usize
     if !relation_bench::fits(arcs, n) {
         return 0;
     }
-    let jobs = n as usize;
+    let jobs = usize::from(n);
     let after = relation_bench::closed(arcs, jobs);
     if !relation_bench::acyclic(after, jobs) {
         return 0;

@@ -20,16 +20,17 @@ returns-then-not-fits c =
 pub closed-after-requires : goal.closed-after-requires
 closed-after-requires c =
     let e = fits_within _ _ (fit (goal.at.closed-after-requires c).Else-not-fits) in
-    record { n_bound = e.0; within = e.1 }
+    record { n_bound = rw c.from.ensures e.0; within = rw c.from.ensures e.1 }
 
 pub searched-requires : goal.searched-requires
 searched-requires c = record {
-  n_bound = (fits_within _ _ (fit (goal.at.searched-requires c).Else-not-fits)).0;
-  inside = c.closed-after.ensures.inside;
+  n_bound = rw c.from-2.ensures (fits_within _ _ (fit (goal.at.searched-requires c).Else-not-fits)).0;
+  inside = rw (c.from-2.ensures, ← c.from.ensures) c.closed-after.ensures.inside;
 }
 
 pub returns : goal.returns
 returns c =
     let a = c.args in
-    c.searched.ensures ∙ ap (λ r. packed (first_n_of a.n r)) c.closed-after.ensures.result_value
+    rw c.from-2.ensures at c.searched.ensures
+    ∙ ap (λ r. packed (first_n_of a.n r)) (rw c.from.ensures at c.closed-after.ensures.result_value)
     ∙ packed_fit a.n (pairs a.arcs.now) (fit (goal.at.returns c).Else-not-fits)

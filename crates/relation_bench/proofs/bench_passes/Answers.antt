@@ -23,18 +23,18 @@ table_of-table-requires c = λ a m. let w = fits_within _ _ (fit (goal.at.table_
 pub passed-requires : goal.passed-requires
 passed-requires c =
     let e = fits_inside _ _ (fit (goal.at.passed-requires c).Else-not-fits) c.table_of-table.result c.table_of-table.ensures in
-    record { n_bound = e.0; inside = e.1 }
+    record { n_bound = rw c.from.ensures e.0; inside = rw c.from.ensures e.1 }
 
 pub loop-init : goal.loop-init
-loop-init c = c.passed.ensures.joins_after
+loop-init c = rw (← c.from.ensures) c.passed.ensures.joins_after
 
 pub passed-requires-in-loop : goal.passed-requires-in-loop
 passed-requires-in-loop c =
     let e = fits_inside _ _ (fit (goal.at.passed-requires-in-loop c).Else-not-fits) c.table_of-table.result c.table_of-table.ensures in
-    record { n_bound = e.0; inside = e.1 }
+    record { n_bound = rw c.from-in-loop.ensures e.0; inside = rw c.from-in-loop.ensures e.1 }
 
 pub loop-preserved : goal.loop-preserved
-loop-preserved c = c.passed-in-loop.ensures.joins_after
+loop-preserved c = rw (← c.from-in-loop.ensures) c.passed-in-loop.ensures.joins_after
 
 pub returns : goal.returns
 returns c =

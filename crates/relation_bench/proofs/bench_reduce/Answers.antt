@@ -25,20 +25,24 @@ module _ (c : goal.Else-not-fits) where
 
 -- their closure is looked through for a cycle
 tested : (c : goal.After-acyclic) → c.acyclic.result ≡ acyclic c.args.n (before c.args.n (pairs c.args.arcs.now))
-tested c = c.acyclic.ensures ∙ ap (acyclic c.args.n) c.closed-after.ensures.result_value
+tested c = rw c.from-jobs.ensures at c.acyclic.ensures ∙ ap (acyclic c.args.n) (rw c.from-jobs.ensures at c.closed-after.ensures.result_value)
 
 -- there is none, and the order is reduced
 module _ (c : goal.After-reduced-covers) where
   order : acyclic c.args.n (before c.args.n (pairs c.args.arcs.now)) ≡ true
-  order = sym (c.acyclic.ensures ∙ ap (acyclic c.args.n) c.closed-after.ensures.result_value) ∙ c.if-not-acyclic.false
+  order =
+      sym (rw c.from-jobs.ensures at c.acyclic.ensures ∙ ap (acyclic c.args.n) (rw c.from-jobs.ensures at c.closed-after.ensures.result_value))
+      ∙ c.if-not-acyclic.false
 
   inside : Inside c.args.n c.reduced-covers.result
-  inside = reduced_inside c.args.n c.closed-after.result c.reduced-covers.result c.closed-after.ensures.inside c.reduced-covers.ensures
+  inside =
+      reduced_inside c.args.n c.closed-after.result c.reduced-covers.result (rw c.from-jobs.ensures at c.closed-after.ensures.inside)
+      (rw c.from-jobs.ensures at c.reduced-covers.ensures)
 
   same : pairs_of c.args.n (holds c.reduced-covers.result) ≡ reduction c.args.n (before c.args.n (pairs c.args.arcs.now))
   same =
-      covers_reduction c.args.n (pairs c.args.arcs.now) c.closed-after.result c.reduced-covers.result c.closed-after.ensures.result_value
-      c.reduced-covers.ensures
+      covers_reduction c.args.n (pairs c.args.arcs.now) c.closed-after.result c.reduced-covers.result
+      (rw c.from-jobs.ensures at c.closed-after.ensures.result_value) (rw c.from-jobs.ensures at c.reduced-covers.ensures)
 
 pub returns-then-not-fits : goal.returns-then-not-fits
 returns-then-not-fits c =
@@ -49,10 +53,10 @@ returns-then-not-fits c =
 pub closed-after-requires : goal.closed-after-requires
 closed-after-requires c =
     let e = fits_within c.args.n (pairs c.args.arcs.now) (fit (goal.at.closed-after-requires c).Else-not-fits) in
-    record { n_bound = e.0; within = e.1 }
+    record { n_bound = rw c.from-jobs.ensures e.0; within = rw c.from-jobs.ensures e.1 }
 
 pub acyclic-requires : goal.acyclic-requires
-acyclic-requires c = small (goal.at.acyclic-requires c).Else-not-fits
+acyclic-requires c = rw c.from-jobs.ensures (small (goal.at.acyclic-requires c).Else-not-fits)
 
 pub returns-then-not-acyclic : goal.returns-then-not-acyclic
 returns-then-not-acyclic c =
@@ -67,15 +71,15 @@ reduced-covers-requires c =
     let p = goal.at.reduced-covers-requires c in
     let e = c.closed-after.ensures in
     record {
-      n_bound = small p.Else-not-fits;
-      strict = rw e.result_value (acyclic_strict c.args.n (pairs c.args.arcs.now) (sym (tested p.After-acyclic) ∙ c.if-not-acyclic.false));
+      n_bound = rw c.from-jobs.ensures (small p.Else-not-fits);
+      strict = rw (e.result_value, c.from-jobs.ensures) (acyclic_strict c.args.n (pairs c.args.arcs.now) (sym (tested p.After-acyclic) ∙ c.if-not-acyclic.false));
       inside = e.inside;
     }
 
 pub pair_count-count-requires : goal.pair_count-count-requires
 pair_count-count-requires c =
     let p = goal.at.pair_count-count-requires c in
-    record { n_bound = small p.Else-not-fits; inside = inside p.After-reduced-covers }
+    record { n_bound = rw c.from-jobs.ensures (small p.Else-not-fits); inside = rw c.from-jobs.ensures (inside p.After-reduced-covers) }
 
 pub returns-then-area-count : goal.returns-then-area-count
 returns-then-area-count c =
@@ -84,15 +88,15 @@ returns-then-area-count c =
     let r = p.After-reduced-covers in
     let e = no_arcs a.area.now
     (reduced_crowded a.n (pairs a.arcs.now) (length a.area.now) (fit p.Else-not-fits) (order r)
-    (omega (arith, c.if-area-count.true, c.pair_count-count.ensures, ap length (same r)))) in
+    (omega (arith, c.if-area-count.true, rw c.from-jobs.ensures at c.pair_count-count.ensures, ap length (same r)))) in
     record { value = e.0; area_after = e.1 }
 
 pub write_pairs-requires : goal.write_pairs-requires
 write_pairs-requires c =
     let p = goal.at.write_pairs-requires c in
     record {
-      n_bound = small p.Else-not-fits;
-      inside = inside p.After-reduced-covers;
+      n_bound = rw c.from-jobs.ensures (small p.Else-not-fits);
+      inside = rw c.from-jobs.ensures (inside p.After-reduced-covers);
       t_in_bounds = omega (arith, c.if-area-count.false, c.pair_count-count.ensures);
     }
 
@@ -103,8 +107,8 @@ returns c =
     let r = p.After-reduced-covers in
     let e = same r
     ∙ reduced_given a.n (pairs a.arcs.now) (length a.area.now) (fit p.Else-not-fits) (order r)
-    (omega (arith, c.if-area-count.false, c.pair_count-count.ensures, ap length (same r))) in
+    (omega (arith, c.if-area-count.false, rw c.from-jobs.ensures at c.pair_count-count.ensures, ap length (same r))) in
     record {
-      value = c.pair_count-count.ensures ∙ ap length e;
-      area_after = c.write_pairs.ensures ∙ ap (λ x. overlay (arc_bytes x) a.area.now) e;
+      value = rw c.from-jobs.ensures at c.pair_count-count.ensures ∙ ap length e;
+      area_after = rw c.from-jobs.ensures at c.write_pairs.ensures ∙ ap (λ x. overlay (arc_bytes x) a.area.now) e;
     }

@@ -30,7 +30,9 @@ module _ (c : goal.Else-not-fits) where
 
 -- their closure has no cycle
 order : (c : goal.Else-not-acyclic) → acyclic c.args.n (before c.args.n (pairs c.args.arcs.now)) ≡ true
-order c = sym (c.acyclic.ensures ∙ ap (acyclic c.args.n) c.closed-after.ensures.result_value) ∙ c.if-not-acyclic.false
+order c =
+    sym (rw c.from-jobs.ensures at c.acyclic.ensures ∙ ap (acyclic c.args.n) (rw c.from-jobs.ensures at c.closed-after.ensures.result_value))
+    ∙ c.if-not-acyclic.false
 
 pub returns-then-n-lt1 : goal.returns-then-n-lt1
 returns-then-n-lt1 c =
@@ -51,21 +53,22 @@ returns-then-not-fits c =
 pub closed-after-requires : goal.closed-after-requires
 closed-after-requires c =
     let e = fits_within c.args.n (pairs c.args.arcs.now) (fit (goal.at.closed-after-requires c).Else-not-fits) in
-    record { n_bound = e.0; within = e.1 }
+    record { n_bound = rw c.from-jobs.ensures e.0; within = rw c.from-jobs.ensures e.1 }
 
 pub acyclic-requires : goal.acyclic-requires
-acyclic-requires c = small (goal.at.acyclic-requires c).Else-not-fits
+acyclic-requires c = rw c.from-jobs.ensures (small (goal.at.acyclic-requires c).Else-not-fits)
 
 pub returns-then-not-acyclic : goal.returns-then-not-acyclic
 returns-then-not-acyclic c =
     let a = c.args in
     let w = (goal.at.returns-then-not-acyclic c).Else-not-fits in
     cyclic a.rounds a.n (pairs a.arcs.now) (one w) (few w) (fit w)
-    (sym (c.acyclic.ensures ∙ ap (acyclic a.n) c.closed-after.ensures.result_value) ∙ c.if-not-acyclic.true)
+    (sym (rw c.from-jobs.ensures at c.acyclic.ensures ∙ ap (acyclic a.n) (rw c.from-jobs.ensures at c.closed-after.ensures.result_value))
+    ∙ c.if-not-acyclic.true)
 
 pub transposed-under-requires : goal.transposed-under-requires
 transposed-under-requires c =
-    record { n_bound = small (goal.at.transposed-under-requires c).Else-not-fits; inside = c.closed-after.ensures.inside }
+    record { n_bound = rw c.from-jobs.ensures (small (goal.at.transposed-under-requires c).Else-not-fits); inside = c.closed-after.ensures.inside }
 
 pub repeated-requires : goal.repeated-requires
 repeated-requires c =
@@ -73,8 +76,8 @@ repeated-requires c =
     let w = (goal.at.repeated-requires c).Else-not-fits in
     let e = c.closed-after.ensures in
     record {
-      n_nonzero = (omega (arith, one w), small w, few w);
-      strict = rw e.result_value (acyclic_strict a.n (pairs a.arcs.now) (order (goal.at.repeated-requires c).Else-not-acyclic));
+      n_nonzero = (rw c.from-jobs.ensures (omega (arith, one w)), rw c.from-jobs.ensures (small w), few w);
+      strict = rw (e.result_value, c.from-jobs.ensures) (acyclic_strict a.n (pairs a.arcs.now) (order (goal.at.repeated-requires c).Else-not-acyclic));
       inside = e.inside;
       by_index = c.transposed-under.ensures;
       all_below = alike_below a.n (small w);
@@ -84,6 +87,6 @@ pub returns : goal.returns
 returns c =
     let a = c.args in
     let w = (goal.at.returns c).Else-not-fits in
-    c.repeated.ensures
-    ∙ ap (λ r. a.rounds * count_of (written a.n (alike a.n) (tree_of a.n r))) c.closed-after.ensures.result_value
+    rw c.from-jobs.ensures at c.repeated.ensures
+    ∙ ap (λ r. a.rounds * count_of (written a.n (alike a.n) (tree_of a.n r))) (rw c.from-jobs.ensures at c.closed-after.ensures.result_value)
     ∙ all_written a.rounds a.n (pairs a.arcs.now) (one w) (few w) (fit w) (order (goal.at.returns c).Else-not-acyclic)
