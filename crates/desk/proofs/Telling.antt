@@ -1,10 +1,10 @@
 -- What an analysis gives, told as one number, a longest run, gangs, and a reason.
 use Prim.Native.Nat.{ℕ}
-use mathlib.Core.Path.{◌≡◌, ap, ◌∙◌}
+use mathlib.Core.Path.{◌≡◌, refl, ap, ◌∙◌}
 use mathlib.Core.List.{List, []}
 use lib.ListN.{length}
 use Rattle.poset.specs.Areas.{padded}
-use Rattle.std.specs.Prelude.{Result}
+use Rattle.std.specs.Prelude.{Result, Ok, Err}
 use Rattle.analysis.specs.Answer.{Answer}
 use Rattle.analysis.specs.Outcome.{Outcome}
 use Rattle.analysis.specs.Result.{refusal_answer, analysis_answer, Gives}
@@ -16,7 +16,9 @@ use Rattle.longest.specs.Outcome.{RunOutcome}
 use Rattle.gangs.specs.Outcome as gangs
 use Rattle.gangs.specs.Outcome.{GangOutcome}
 use Rattle.reason.specs.Outcome as reason
-use Rattle.reason.specs.Outcome.{ReasonOutcome}
+use Rattle.reason.specs.Outcome.{ReasonOutcome, rule_number}
+use Rattle.reason.specs.declared.Reason.{Reason}
+use Rattle.desk.specs.declared.Reason.{Reason as ToldReason}
 use Rattle.desk.specs.Told.{Told, RunTold, GangsTold, ReasonTold}
 use Rattle.desk.proofs.Packing.{Narrow, cut_narrow}
 
@@ -62,3 +64,18 @@ reason_refused s w e h = record {
   position_is = s.position_is;
   jobs_are = s.jobs_are;
 }
+
+-- the struct that the call makes of a reason or of a refusal
+
+abbrev pub reason_made : Result Reason Refusal → ToldReason
+reason_made (Ok r) = record { answer = 0; rule = rule_number r.rule; position = r.position; jobs = r.jobs }
+reason_made (Err e) = record { answer = packed (cut (refusal_answer e)); rule = 0; position = 0; jobs = 0 }
+
+pub tells_reason : {o : ReasonOutcome} (x : Result Reason Refusal) → reason.Shows o x → Narrow o.verdict → ReasonTold o (reason_made x)
+tells_reason (Ok r) s w = record {
+  answers = ap packed s.answers;
+  rule_is = s.rule_is;
+  position_is = s.position_is;
+  jobs_are = s.jobs_are;
+}
+tells_reason (Err e) s w = reason_refused s w refl refl
