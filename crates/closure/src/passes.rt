@@ -94,8 +94,8 @@ fn range(t: &[JobSet; 128], n: usize) -> JobSet
     ensures { (v : ℕ) → has result v ≡ exists (λ u. holds t.now u v) (below n) }
 {
     let mut jobs = JobSet::EMPTY;
-    for u in 0..n {
-        jobs = jobs.union(t[u]);
+    for row in &t[..n] {
+        jobs = jobs.union(*row);
     }
     jobs
 }

@@ -7,9 +7,9 @@ use mathlib.Core.Path.{◌≡◌, refl, sym, ap, ◌∙◌}
 use mathlib.Core.List.{List, [], ◌∷◌}
 use mathlib.Core.Bool.{true, false}
 use mathlib.Core.Logic.{⊎_elim}
-use lib.ListN.{length, get_or, set, replicate, length-set}
-use lib.Seq.{get_or-set_same, get_or-set_other}
-use Rattle.std.proofs.lemmas.List.{get_or_default}
+use lib.ListN.{length, get_or, set, take, replicate, length-set}
+use lib.Seq.{get_or-set_same, get_or-set_other, length-take-le}
+use Rattle.std.proofs.lemmas.List.{get_or_default, get_or-take}
 use Rattle.poset.specs.Order.{Rel}
 use Rattle.poset.proofs.Laws.{false_unless}
 use Rattle.relation.specs.Table.{bit, has, holds}
@@ -18,6 +18,13 @@ use Rattle.relation.proofs.Words.{bit_zero}
 -- a row that is read from a table, at any default
 pub row_read : (t : List (List ℕ)) (u : ℕ) (row : List ℕ) → u < length t → get_or t u row ≡ get_or t u []
 row_read t u row l = get_or_default t u row [] l
+
+-- and one that is read from its first n rows
+pub row_taken : (t : List (List ℕ)) (n u : ℕ) (row : List ℕ) → n ≤ length t → u < length (take n t) → row ≡ get_or (take n t) u row
+    → (u < n) × (row ≡ get_or t u [])
+row_taken t n u row few l e =
+    let low : u < n = omega (arith, l, length-take-le n t few) in
+    (low, e ∙ get_or-take n t u row low ∙ row_read t u row (omega (arith, low, few)))
 
 module _ (t : List (List ℕ)) (u : ℕ) (row : List ℕ) where
   pub row_here : u < length t → (v : ℕ) → holds (set t u row) u v ≡ has row v

@@ -74,8 +74,8 @@ pub fn pair_count(t: &[JobSet; 128], n: usize) -> usize
     ensures { result ≡ length (pairs_of n (holds t.now)) }
 {
     let mut count = 0;
-    for u in 0..n {
-        count += t[u].size();
+    for row in &t[..n] {
+        count += row.size();
     }
     count
 }
