@@ -114,7 +114,7 @@ pub fn write_pairs(t: &[JobSet; 128], n: usize, area: &mut [u8])
     ensures { area.new ≡ overlay (arc_bytes (pairs_of n (holds t.now))) area.old }
 {
     let mut at = 0;
-    for u in 0..n {
-        at = write_row(u, t[u], at, area);
+    for (u, row) in t[..n].iter().enumerate() {
+        at = write_row(u, *row, at, area);
     }
 }
