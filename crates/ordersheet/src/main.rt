@@ -2,7 +2,8 @@
 
 #![tactic(auto)]
 
-ghost use Rattle.std.specs.Prelude.{◌≤◌, ◌≡◌, IfOk, length};
+ghost use Rattle.std.specs.Prelude.{◌≤◌, ◌<◌, ◌≡◌, IfOk, length, take};
+ghost use Rattle.std.specs.Io.KnownBytes.{Consumes, IsAtEnd};
 ghost use Rattle.streams.specs.Reading.{InputRead};
 ghost use Rattle.printer.specs.Buffer.{Prints};
 ghost use Rattle.ordersheet.specs.Reading.{buffer_size, answered};
@@ -10,24 +11,27 @@ ghost use Rattle.ordersheet.specs.Reading.{buffer_size, answered};
 use analysis::LONGEST_SHEET;
 use printer::outcome;
 use std::io;
-use std::io::Stdin;
+use std::io::Read;
+use streams::Filled;
 
 // Reads until the input ends, the buffer is full or a read fails: how many bytes there are then.
-fn read_input(input: &mut Stdin, buf: &mut [u8]) -> io::Result<usize>
+fn read_input<R: Read>(input: &mut R, buf: &mut [u8]) -> io::Result<Filled>
     requires { length buf.old ≡ buffer_size }
-    ensures within { IfOk result (λ len. len ≤ length buf.new) }
+    ensures within { IfOk result (λ r. r.len ≤ length buf.new) }
     ensures reads { InputRead buf.old buf.new result }
+    ensures bytes { IfOk result (λ r. Consumes (R.remaining input.old) (R.remaining input.new) (take r.len buf.new)) }
+    ensures end { IfOk result (λ r. r.len < length buf.new → IsAtEnd (R.remaining input.new)) }
 {
-    streams::read_full(input, buf)
+    streams::fill(input, buf)
 }
 
 // The text to print, at the start of its buffer: none where a read failed. Returns its length.
-fn text_of(input: &io::Result<usize>, buf: &[u8], text: &mut [u8; 40000]) -> usize
-    requires { IfOk input.now (λ len. len ≤ length buf.now) }
+fn text_of(input: &io::Result<Filled>, buf: &[u8], text: &mut [u8; 40000]) -> usize
+    requires { IfOk input.now (λ r. r.len ≤ length buf.now) }
     ensures { Prints text.old (answered input.now buf.now) text.new result }
 {
     match input {
-        Ok(len) => outcome::sheet_text(&buf[..*len], text),
+        Ok(read) => outcome::sheet_text(&buf[..read.len], text),
         Err(_) => 0,
     }
 }

@@ -1,18 +1,24 @@
 -- What is told of a read, and of reading until the input ends or the buffer is full.
 use Rattle.std.specs.Prelude.{ℕ, ◌+◌, ◌-◌, ◌≤◌, ◌<◌, ◌≡◌, Result, Ok, Err, IfOk, List, length, take}
 use Rattle.std.specs.declared.io.Error.{Error}
+use Rattle.streams.specs.declared.Filled.{Filled}
 
 -- what a read that is handed so many bytes may answer: an error, or how many bytes it read, no more than these
 abbrev pub Moved : ℕ → Result ℕ Error → Type 0
 Moved room answer = IfOk answer (λ k. k ≤ room)
 
--- what is told of a read after the first `done` bytes, by its answer: the error, or how many bytes there are then
-abbrev pub told : Result ℕ Error → ℕ → Result ℕ Error
-told (Ok k) done = Ok (done + k)
+-- what is told of a read after the first `done` bytes, by its answer: the error, or how many bytes there are then, and how many it gave
+abbrev pub told : Result ℕ Error → ℕ → Result Filled Error
+told (Ok k) done = Ok (record { len = done + k; last = k })
 told (Err e) done = Err e
 
+-- of what is told, how many bytes there are
+abbrev pub length_of : Result Filled Error → Result ℕ Error
+length_of (Ok r) = Ok r.len
+length_of (Err e) = Err e
+
 -- r is told of one read more, into the buffer after its first `done` bytes, which stay
-pub record MoreRead (done : ℕ) (buf buf' : List ℕ) (r : Result ℕ Error) : Type 0 where
+pub record MoreRead (done : ℕ) (buf buf' : List ℕ) (r : Result Filled Error) : Type 0 where
   pub answer : Result ℕ Error
   pub moved : Moved (length buf - done) answer
   pub is_told : r ≡ told answer done
@@ -21,12 +27,13 @@ pub record MoreRead (done : ℕ) (buf buf' : List ℕ) (r : Result ℕ Error) : 
 -- one read after the other into a buffer that held buf, each after the bytes of those before it, and each gave something: how many bytes there are
 pub data Reads (buf : List ℕ) : List ℕ → ℕ → Type 0 where
   none : Reads buf buf 0
-  next : {buf' buf'' : List ℕ} {done len : ℕ} → Reads buf buf' done → done < length buf → MoreRead done buf' buf'' (Ok len) → done < len
-      → Reads buf buf'' len
+  next : {buf' buf'' : List ℕ} {done : ℕ} {r : Filled} → Reads buf buf' done → done < length buf → MoreRead done buf' buf'' (Ok r) → 0 < r.last
+      → Reads buf buf'' r.len
 
--- the input is read, and r is told of the last read: the buffer is full, or that read found the input's end, or it failed
-pub data InputRead (buf : List ℕ) : List ℕ → Result ℕ Error → Type 0 where
-  full : {buf' : List ℕ} {len : ℕ} → Reads buf buf' len → length buf ≤ len → InputRead buf buf' (Ok len)
-  ended : {buf' buf'' : List ℕ} {len : ℕ} → Reads buf buf' len → len < length buf → MoreRead len buf' buf'' (Ok len) → InputRead buf buf'' (Ok len)
+-- the input is read, and r is told of the last read: the buffer is full, or that read gave nothing, at the input's end, or it failed
+pub data InputRead (buf : List ℕ) : List ℕ → Result Filled Error → Type 0 where
+  full : {buf' : List ℕ} {r : Filled} → Reads buf buf' r.len → length buf ≤ r.len → InputRead buf buf' (Ok r)
+  ended : {buf' buf'' : List ℕ} {done : ℕ} {r : Filled} → Reads buf buf' done → done < length buf → MoreRead done buf' buf'' (Ok r) → r.last ≡ 0
+      → InputRead buf buf'' (Ok r)
   failed : {buf' buf'' : List ℕ} {done : ℕ} {e : Error} → Reads buf buf' done → done < length buf → MoreRead done buf' buf'' (Err e)
       → InputRead buf buf'' (Err e)

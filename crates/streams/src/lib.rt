@@ -2,45 +2,74 @@
 
 #![tactic(auto)]
 
-ghost use Rattle.std.specs.Prelude.{◌≡◌, ◌+◌, ◌^◌, ◌<◌, ◌≤◌, IfOk, length};
-ghost use Rattle.streams.specs.Reading.{told, MoreRead, InputRead};
+ghost use Rattle.std.specs.Prelude.{◌≡◌, ◌+◌, ◌^◌, ◌<◌, ◌≤◌, Result, IfOk, length, take, drop};
+ghost use Rattle.std.specs.Io.KnownBytes.{Consumes, IsAtEnd};
+ghost use Rattle.std.specs.declared.io.Error.{Error};
+ghost use Rattle.streams.specs.declared.Filled.{Filled};
+ghost use Rattle.streams.specs.Reading.{told, length_of, MoreRead, InputRead};
 
 use std::io::{Read, Write};
 use std::{io, str};
 
-// A read after the first `done` bytes of a buffer has answered so: how many bytes there are then.
-fn told(answer: io::Result<usize>, done: usize) -> io::Result<usize>
+// How many bytes of a buffer are read, and how many of them the last read gave: none where it found the input's end.
+#[derive(Clone, Copy)]
+pub struct Filled {
+    pub len: usize,
+    pub last: usize,
+}
+
+// A read after the first `done` bytes of a buffer has answered so.
+fn told(answer: io::Result<usize>, done: usize) -> io::Result<Filled>
     requires { IfOk answer (λ got. done + got < 2 ^ 64) }
     ensures { result ≡ told answer done }
 {
-    Ok(done + answer?)
+    let last = answer?;
+    Ok(Filled {
+        len: done + last,
+        last,
+    })
 }
 
 // One read more. The first `done` bytes stay.
 // `buf` and `done` stay two arguments: a struct of a buffer and how far it is filled would name them no better.
-fn read_more<R: Read>(input: &mut R, buf: &mut [u8], done: usize) -> io::Result<usize>
+fn read_more<R: Read>(input: &mut R, buf: &mut [u8], done: usize) -> io::Result<Filled>
     requires { done ≤ length buf.old }
-    ensures { MoreRead done buf.old buf.new result }
+    ensures reads { MoreRead done buf.old buf.new result }
+    ensures bytes { IfOk result (λ r. Consumes (R.remaining input.old) (R.remaining input.new)
+        (take r.last (drop done buf.new))) }
+    ensures end { IfOk result (λ r. r.last ≡ 0 → done < length buf.new → IsAtEnd (R.remaining input.new)) }
 {
     let answer = input.read(&mut buf[done..]);
     told(answer, done)
 }
 
-// Reads until the input ends or the buffer is full: how many bytes the buffer holds then.
+// Reads until the input ends or the buffer is full. Where the input's bytes are known, the buffer has them, and those
+// that it has no room for are left.
 // A `while`: each read takes the rest of the buffer, which no iterator hands out.
-pub fn read_full<R: Read>(input: &mut R, buf: &mut [u8]) -> io::Result<usize>
-    ensures within { IfOk result (λ n. n ≤ length buf.new) }
+pub fn fill<R: Read>(input: &mut R, buf: &mut [u8]) -> io::Result<Filled>
+    ensures within { IfOk result (λ r. r.len ≤ length buf.new) }
     ensures reads { InputRead buf.old buf.new result }
+    ensures bytes { IfOk result (λ r. Consumes (R.remaining input.old) (R.remaining input.new) (take r.len buf.new)) }
+    ensures end { IfOk result (λ r. r.len < length buf.new → IsAtEnd (R.remaining input.new)) }
 {
-    let mut done = 0;
-    while done < buf.len() {
-        let len = read_more(input, buf, done)?;
-        if len == done {
+    let mut filled = Filled { len: 0, last: 0 };
+    while filled.len < buf.len() {
+        filled = read_more(input, buf, filled.len)?;
+        if filled.last == 0 {
             break;
         }
-        done = len;
     }
-    Ok(done)
+    Ok(filled)
+}
+
+// As `fill`: how many bytes the buffer holds then.
+pub fn read_full<R: Read>(input: &mut R, buf: &mut [u8]) -> io::Result<usize>
+    ensures within { IfOk result (λ n. n ≤ length buf.new) }
+    ensures reads { (r : Result Filled Error) × InputRead buf.old buf.new r × (result ≡ length_of r) }
+    ensures bytes { IfOk result (λ n. Consumes (R.remaining input.old) (R.remaining input.new) (take n buf.new)) }
+    ensures end { IfOk result (λ n. n < length buf.new → IsAtEnd (R.remaining input.new)) }
+{
+    Ok(fill(input, buf)?.len)
 }
 
 // A line on standard error: what failed, and as much of the error's text as 256 bytes hold, without the number that std
