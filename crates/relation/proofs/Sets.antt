@@ -1,27 +1,30 @@
 -- Rows of two words as sets of jobs.
-use Prim.Native.Nat.{ℕ, suc, ◌+◌, ◌-◌, ◌/◌, ◌%◌, ◌^◌, ◌≤◌, ◌<◌, min}
+use Prim.Native.Nat.{ℕ, zero, suc, ◌+◌, ◌-◌, ◌/◌, ◌%◌, ◌^◌, ◌≤◌, ◌<◌, min}
 use native.Mathlib.Nat.{div-eq_of_lt, mod-eq_of_lt, eq-or-lt_of_le, lt_of_lt_of_le, lt_irrefl, zero-lt-suc}
 use native.Mathlib.Decide.{dec_lt, ℕ_discrete}
 use native.Mathlib.Omega.{arith}
 use mathlib.Core.Path.{◌≡◌, refl, sym, ap, ap₂, subst, ◌∙◌}
 use mathlib.Core.List.{List, [], ◌∷◌, ◌++◌, map, append-nil, Memᴰ}
-use mathlib.Core.Bool.{Bool, true, false, ◌&&◌, ◌||◌, not}
+use mathlib.Core.Bool.{Bool, true, false, ◌&&◌, ◌||◌, not, xor}
 use mathlib.Core.Logic.{◌⊎◌, inl, inr, ⊎_elim}
 use mir.Syntax.{w64}
 use mir.Val.{Fits}
 use lib.Dec.{eqb, ltb}
 use lib.ListN.{length, get_or, set, length-append, length-map, get_or-eq_default}
+use lib.Pointwise.{bytes_decides}
 use lib.Seq.{get_or-set_same, get_or-set_other}
 use lib.Bits.{bit_and, bit_or, or_add_and, and_le_l, and_le_r}
 use lib.Count.{count_trailing_zeros, count_leading_zeros, ones, ones-le}
 use borrow.Author.Tests.{lt-ltb, le-ltb, eq-eqb, ne_eqb, ltb-true, eqb-true}
+use Rattle.std.specs.Prelude.{bytes_eq}
+use Rattle.std.proofs.lemmas.List.{ext_get_or}
 use Rattle.poset.specs.Lists.{exists, keep, up_from, below}
-use Rattle.poset.proofs.Laws.{clash, false_unless, same_test, any_hit, any_found, any_miss, any_none}
+use Rattle.poset.proofs.Laws.{clash, false_unless, not-true, not-false, same_test, any_hit, any_found, any_miss, any_none}
 use Rattle.poset.proofs.Laws.{keep_yes, keep_not, keep_mem, mem_keep, keep_agree, below_mem, mem_below, mem_up_from, below_add}
 use Rattle.relation.specs.Table.{bit, has, members, Least, Greatest}
 use Rattle.relation.proofs.Lists.{and-true, and_false, and_comm, or-false, keep_append, keep_none, keep_shift, keep_from}
 use Rattle.relation.proofs.Lists.{any_after}
-use Rattle.relation.proofs.Words.{bit_tested, bit_and_lem, bit_or_lem, bit_complement, bit_zero, bit_power, bit_ones}
+use Rattle.relation.proofs.Words.{same_bits, bit_tested, bit_and_lem, bit_or_lem, bit_complement, bit_zero, bit_power, bit_ones}
 use Rattle.relation.proofs.Words.{Lowest, lowest, highest, ones_count}
 
 -- what a row has, by its words
@@ -49,6 +52,24 @@ has_small s n v e = elim (dec_lt v 128) [ yes l ↦ l | no l ↦ absurd (clash e
 -- a row with no job below 128 has none
 pub has_none : (s : List ℕ) → length s ≡ 2 → exists (has s) (below 128) ≡ false → (v : ℕ) → has s v ≡ false
 has_none s n h v = false_unless _ (λ e. clash e (any_miss (has s) (below 128) h (below_mem (has_small s n v e))))
+
+-- a job in one of two rows alone
+
+in_neither : (b : Bool) → xor b b ≡ false
+unfolding xor
+in_neither true = refl
+in_neither false = refl
+
+in_both : (a b : Bool) → xor a b ≡ false → a ≡ b
+unfolding xor
+in_both true true h = refl
+in_both true false h = h
+in_both false true h = sym h
+in_both false false h = refl
+
+pub same_jobs : (a b : List ℕ) → not (exists (λ v. xor (has a v) (has b v)) (below 128)) ≡ true → (v : ℕ) → v < 128 → has a v ≡ has b v
+same_jobs a b h v l =
+    in_both _ _ (any_miss (λ x. xor (has a x) (has b x)) (below 128) (not-true _ h) (below_mem l))
 
 -- a test of a job's bit in its word
 pub has_tested
@@ -218,6 +239,26 @@ pub record Row (s : List ℕ) : Type 0 where
   pub two : length s ≡ 2
   pub low : Fits w64 (get_or s 0 0)
   pub high : Fits w64 (get_or s 1 0)
+
+-- rows that have the same jobs are equal, word by word
+
+module _ (a b : List ℕ) (r : Row a) (s : Row b) where
+  same_rows : ((v : ℕ) → v < 128 → has a v ≡ has b v) → a ≡ b
+  same_rows h = ext_get_or 0 a b (omega (arith, r.two, s.two)) words
+    where
+      words : (i : ℕ) → i < length a → get_or a i 0 ≡ get_or b i 0
+      words zero l = same_bits 64 _ _ r.low.fits s.low.fits (λ i m. sym (has_low a i m) ∙ h i (omega arith) ∙ has_low b i m)
+      words (suc zero) l =
+          same_bits 64 _ _ r.high.fits s.high.fits (λ i m. sym (has_high a i m) ∙ h (64 + i) (omega arith) ∙ has_high b i m)
+      words (suc (suc i)) l = absurd (omega (arith, r.two))
+
+  pub equal_rows : bytes_eq a b ≡ not (exists (λ v. xor (has a v) (has b v)) (below 128))
+  equal_rows = same_test _ _ alike (λ e. (bytes_decides a b).1 (same_rows (same_jobs a b e)))
+    where
+      alike : bytes_eq a b ≡ true → not (exists (λ v. xor (has a v) (has b v)) (below 128)) ≡ true
+      alike e =
+          let same : a ≡ b = (bytes_decides a b).0 e in
+          not-false _ (any_none _ (below 128) (λ v _. rw same (in_neither (has b v))))
 
 -- a job that is not the smallest has a smaller one
 after_least : (s : List ℕ) (z : ℕ) → Least s z → (v : ℕ) → (has s v && not (eqb v z)) ≡ (has s v && exists (has s) (below v))

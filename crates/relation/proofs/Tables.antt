@@ -5,15 +5,17 @@ use native.Mathlib.Decide.{dec_lt, ℕ_discrete}
 use native.Mathlib.Omega.{arith}
 use mathlib.Core.Path.{◌≡◌, refl, sym, ap, ◌∙◌}
 use mathlib.Core.List.{List, [], ◌∷◌}
-use mathlib.Core.Bool.{true, false}
+use mathlib.Core.Bool.{true, false, not, xor}
 use mathlib.Core.Logic.{⊎_elim}
 use lib.ListN.{length, get_or, set, take, replicate, length-set}
 use lib.Seq.{get_or-set_same, get_or-set_other, length-take-le}
 use Rattle.std.proofs.lemmas.List.{get_or_default, get_or-take}
+use Rattle.poset.specs.Lists.{exists, below}
 use Rattle.poset.specs.Order.{Rel}
 use Rattle.poset.proofs.Laws.{false_unless}
 use Rattle.relation.specs.Table.{bit, has, holds}
 use Rattle.relation.proofs.Words.{bit_zero}
+use Rattle.relation.proofs.Sets.{same_jobs}
 
 -- a row that is read from a table, at any default
 pub row_read : (t : List (List ℕ)) (u : ℕ) (row : List ℕ) → u < length t → get_or t u row ≡ get_or t u []
@@ -25,6 +27,13 @@ pub row_taken : (t : List (List ℕ)) (n u : ℕ) (row : List ℕ) → n ≤ len
 row_taken t n u row few l e =
     let low : u < n = omega (arith, l, length-take-le n t few) in
     (low, e ∙ get_or-take n t u row low ∙ row_read t u row (omega (arith, low, few)))
+
+-- two rows that are read, each at any default, and that have the same jobs
+pub same_read
+    : (t : List (List ℕ)) (u v : ℕ) (row other : List ℕ) → u < length t → v < length t
+    → not (exists (λ w. xor (has (get_or t u row) w) (has (get_or t v other) w)) (below 128)) ≡ true → (w : ℕ) → w < 128 → holds t u w ≡ holds t v w
+unfolding holds
+same_read t u v row other l m e = same_jobs _ _ (rw (row_read t u row l, row_read t v other m) at e)
 
 module _ (t : List (List ℕ)) (u : ℕ) (row : List ℕ) where
   pub row_here : u < length t → (v : ℕ) → holds (set t u row) u v ≡ has row v

@@ -14,8 +14,9 @@ use lib.Pow.{pow_pos, pow-lt, pow_mono, ones_lt, shr-shr, shl-shr, shl_exact, fi
 use lib.Count.{count_trailing_zeros, count_leading_zeros, leading_top, ones, ones_step}
 use borrow.Author.Tests.{lt-ltb, le-ltb}
 use lib.ListN.{length, length-map}
+use Rattle.std.proofs.lemmas.Nat.Bits.{same_from_bits_below}
 use Rattle.poset.specs.Lists.{keep, up_from, below}
-use Rattle.poset.proofs.Laws.{keep_yes, keep_not}
+use Rattle.poset.proofs.Laws.{clash, keep_yes, keep_not}
 use Rattle.relation.specs.Table.{bit}
 use Rattle.relation.proofs.Lists.{keep_shift}
 
@@ -216,6 +217,22 @@ ones_count (suc k) w h =
     (λ (e : w % 2 ≡ 0). rw (e, keep_not (bit w) 0 (up_from 1 k) (bit_even w e), count) (omega arith))
     (λ (e : w % 2 ≡ 1). rw (e, keep_yes (bit w) 0 (up_from 1 k) (bit_odd w e), count) (omega arith))
     (digit_cases (w % 2) (omega arith))
+
+-- numbers of k bits that have the same bits are equal
+
+same_digit : (x y : ℕ) → x < 2 → y < 2 → eqb x 1 ≡ eqb y 1 → x ≡ y
+same_digit zero zero p q e = refl
+same_digit zero (suc zero) p q e = absurd (clash e refl)
+same_digit zero (suc (suc y)) p q e = absurd (omega arith)
+same_digit (suc zero) zero p q e = absurd (clash refl e)
+same_digit (suc zero) (suc zero) p q e = refl
+same_digit (suc zero) (suc (suc y)) p q e = absurd (omega arith)
+same_digit (suc (suc x)) y p q e = absurd (omega arith)
+
+pub same_bits : (k a b : ℕ) → a < 2 ^ k → b < 2 ^ k → ((i : ℕ) → i < k → bit a i ≡ bit b i) → a ≡ b
+unfolding bit
+same_bits k a b p q h =
+    same_from_bits_below k a b p q (λ i l. same_digit (a / 2 ^ i % 2) (b / 2 ^ i % 2) (omega arith) (omega arith) (h i l))
 
 -- how code tests a bit, and makes a word of one bit
 

@@ -108,7 +108,7 @@ fn twin(after: &[JobSet; 128], under: &[JobSet; 128], a: usize) -> bool
     if a == 0 {
         return false;
     }
-    after[a - 1] == after[a] && under[a - 1] == under[a]
+    after[a - 1].same(after[a]) && under[a - 1].same(under[a])
 }
 
 // As first_with_a, where no N begins with a job below a: then none begins with a twin of the one just below it either.

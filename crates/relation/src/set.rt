@@ -1,5 +1,6 @@
 //! Sets of the jobs below 128, two words each: job v is bit v % 64 of word v / 64.
 ghost use Rattle.std.specs.Prelude.{◌≡◌, ℕ, ◌<◌, ◌≤◌, List, true, false, ◌&&◌, ◌||◌, not, eqb, ltb, length, MatchOption};
+ghost use Rattle.std.specs.Bool.{xor};
 ghost use Rattle.poset.specs.Lists.{exists, below};
 ghost use Rattle.relation.specs.Table.{bit, has, members, Least, Greatest};
 
@@ -150,6 +151,13 @@ impl JobSet {
         ensures { result ≡ exists (has self) (below 128) }
     {
         self.words[0] | self.words[1] != 0
+    }
+
+    // Whether two sets have the same members.
+    pub fn same(self, other: Self) -> bool
+        ensures { result ≡ not (exists (λ v. xor (has self v) (has other v)) (below 128)) }
+    {
+        self == other
     }
 
     pub fn smallest(self) -> usize
