@@ -9,6 +9,14 @@ ghost use Rattle.printer.specs.Buffer.{Writes, line_of};
 
 use itoa::{Buffer, Integer};
 
+// The digits of the bytes, two for each, 0 to 9 or a to f, in a part of a text as long as they are.
+fn digits(bytes: &[u8], part: &mut [u8])
+    requires { length part.old ≡ 2 * length bytes.now }
+    ensures { part.new ≡ flat_map hex_byte bytes.now }
+{
+    hex::encode_to_slice(bytes, part).unwrap();
+}
+
 // The text so far, at the start of the buffer.
 #[derive(Drop)]
 pub(crate) struct Page<'a> {
@@ -82,7 +90,7 @@ impl<'a> Page<'a> {
         ensures { Writes self.old (flat_map hex_byte bytes.now) self.new }
     {
         let end = self.len + 2 * bytes.len();
-        hex::encode_to_slice(bytes, &mut self.out[self.len..end]).unwrap();
+        digits(bytes, &mut self.out[self.len..end]);
         self.len = end;
     }
 
