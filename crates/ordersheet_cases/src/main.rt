@@ -59,9 +59,10 @@ fn print_record(rt: &impl Print, record: &[u8]) -> io::Result<()> {
     line(rt, "hours", &found.hours)
 }
 
-// A record's name begins with r.
+// A record's name begins with r. Each part is a write of its own, as in a line of entries.
 fn print_case(rt: &impl Print, name: &str, bytes: &[u8]) -> io::Result<()> {
-    println!(rt; "{name}")?;
+    print!(rt; "{name}")?;
+    println!(rt;)?;
     if name.starts_with('r') {
         print_record(rt, bytes)
     } else {

@@ -8,11 +8,18 @@ ghost use Rattle.std.specs.Prelude.{◌<◌, ◌≤◌, length, IfSome};
 use sheet::{Broken, Sheet};
 use std::io;
 
-// Prints the count and how many arcs there are, or the place of the fault.
+// Prints the count and how many arcs there are, or the place of the fault: each a write of its own, as in a list.
 fn result(rt: &impl Print, read: Result<Sheet, Broken>) -> io::Result<()> {
     match read {
-        Ok(Sheet { jobs, arcs }) => print!(rt; ": sheet {jobs} {arcs}"),
-        Err(Broken { at }) => print!(rt; ": broken {at}"),
+        Ok(Sheet { jobs, arcs }) => {
+            print!(rt; ": sheet")?;
+            print!(rt; " {jobs}")?;
+            print!(rt; " {arcs}")
+        }
+        Err(Broken { at }) => {
+            print!(rt; ": broken")?;
+            print!(rt; " {at}")
+        }
     }
 }
 
