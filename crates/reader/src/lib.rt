@@ -9,7 +9,7 @@ mod listing;
 mod nodes;
 mod parts;
 
-ghost use Rattle.std.specs.Prelude.{◌≡◌, ◌≤◌, option_map};
+ghost use Rattle.std.specs.Prelude.{◌≡◌, ◌≤◌, option_map, replicate};
 ghost use Rattle.record.specs.Bits.{AllBelow};
 ghost use Rattle.record.specs.Decode.{decode};
 ghost use Rattle.reader.specs.Answer.{reading, nodes};
@@ -68,11 +68,22 @@ fn read_whole(bytes: &[u8], lists: &mut Lists) -> Option<Part>
     Some(part)
 }
 
+// No next job. Never inlined: as one part of blank lists these zeros would be a call of C's `memset`.
+#[inline(never)]
+fn no_jobs() -> [u8; 128]
+    ensures { result ≡ replicate 128 0 }
+{
+    [0; 128]
+}
+
 // Reads a record, if the bytes are one.
 pub fn read_record(bytes: &[u8]) -> Option<Reading>
     ensures { result ≡ option_map reading (decode bytes.now) }
 {
-    let mut lists = Lists::new();
+    let mut lists = Lists {
+        next: no_jobs(),
+        ..Lists::new()
+    };
     let part = read_whole(bytes, &mut lists)?;
     let count = usize::from(part.done);
     let groups = usize::from(part.groups);

@@ -2,7 +2,7 @@
 
 #![tactic(auto)]
 
-ghost use Rattle.std.specs.Prelude.{option_map};
+ghost use Rattle.std.specs.Prelude.{◌≡◌, option_map, replicate};
 ghost use Rattle.record.specs.Decode.{decode};
 ghost use Rattle.reader.specs.Answer.{reading};
 ghost use Rattle.reader_bench.specs.Handed.{Handed};
@@ -18,6 +18,14 @@ pub struct Read {
     pub hours: [u16; 128],
 }
 
+// No sequence. Never inlined: so many zeros as a blank `Read` has in one would be a call of C's `memset`.
+#[inline(never)]
+fn no_jobs() -> [u8; 128]
+    ensures { result ≡ replicate 128 0 }
+{
+    [0; 128]
+}
+
 #[unsafe(no_mangle)]
 pub extern "C" fn reader_bench_read(bytes: &[u8]) -> Read
     ensures { Handed (option_map reading (decode bytes.now)) result }
@@ -27,7 +35,7 @@ pub extern "C" fn reader_bench_read(bytes: &[u8]) -> Read
             count: 0,
             groups: 0,
             forward: [0; 128],
-            reverse: [0; 128],
+            reverse: no_jobs(),
             hours: [0; 128],
         };
     };
