@@ -17,7 +17,8 @@ ghost use Rattle.desk.specs.Told.{Told, RunTold, GangsTold, ReasonTold};
 
 use analysis::answer::Answer;
 
-// Numbers go to C by `as`: std has no `From` of `usize` for `u64`.
+// Numbers go to C by `as`: std has no `From` of `usize` for `u64`. A refusal beside lists goes out by `return`: as one
+// of two values of a match, the lists would be zeroed and copied once more.
 
 // Acceptance as a number, where no record is written: its places are 0.
 const ACCEPTED: u64 = 0;
@@ -54,22 +55,23 @@ pub struct Run {
 pub fn ordersheet_longest_run(bytes: &[u8]) -> Run
     ensures { RunTold (run_outcome bytes.now) result }
 {
-    match longest::longest_run(bytes) {
-        Ok(run) => {
-            let jobs = run.jobs;
-            Run {
-                answer: ACCEPTED,
-                total: run.total as u64,
-                count: run.count as u64,
-                jobs,
-            }
+    let run = match longest::longest_run(bytes) {
+        Ok(run) => run,
+        Err(refusal) => {
+            return Run {
+                answer: answer::packed(Answer::from(refusal)),
+                total: 0,
+                count: 0,
+                jobs: [0; 128],
+            };
         }
-        Err(refusal) => Run {
-            answer: answer::packed(Answer::from(refusal)),
-            total: 0,
-            count: 0,
-            jobs: [0; 128],
-        },
+    };
+    let jobs = run.jobs;
+    Run {
+        answer: ACCEPTED,
+        total: run.total as u64,
+        count: run.count as u64,
+        jobs,
     }
 }
 
@@ -87,23 +89,24 @@ pub struct Plan {
 pub fn ordersheet_gangs(bytes: &[u8]) -> Plan
     ensures { GangsTold (gang_outcome bytes.now) result }
 {
-    match gangs::fewest_gangs(bytes) {
-        Ok(plan) => {
-            let hours = plan.hours;
-            let gangs = plan.gangs;
-            Plan {
-                answer: ACCEPTED,
-                count: plan.count as u64,
-                hours,
-                gangs,
-            }
+    let plan = match gangs::fewest_gangs(bytes) {
+        Ok(plan) => plan,
+        Err(refusal) => {
+            return Plan {
+                answer: answer::packed(Answer::from(refusal)),
+                count: 0,
+                hours: [0; 128],
+                gangs: [0; 128],
+            };
         }
-        Err(refusal) => Plan {
-            answer: answer::packed(Answer::from(refusal)),
-            count: 0,
-            hours: [0; 128],
-            gangs: [0; 128],
-        },
+    };
+    let hours = plan.hours;
+    let gangs = plan.gangs;
+    Plan {
+        answer: ACCEPTED,
+        count: plan.count as u64,
+        hours,
+        gangs,
     }
 }
 

@@ -149,7 +149,7 @@ pub fn numbered(nodes: &[u16], jobs: &[u16; 128]) -> GangPlan
     let gangs = numbering.gangs;
     GangPlan {
         count: usize::from(present.end),
-        hours,
         gangs,
+        hours,
     }
 }

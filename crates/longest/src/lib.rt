@@ -25,7 +25,10 @@ pub fn longest_run(bytes: &[u8]) -> Result<LongestRun, Refusal>
     let Some(read) = reader::read_nodes(bytes) else {
         return Err(Refusal::NoRecord);
     };
-    let stack = stack::Stack::of(&read.tokens[..read.count], &read.hours);
+    // lists of their own: as parts of `read` they would be copied once more
+    let tokens = read.tokens;
+    let hours = read.hours;
+    let stack = stack::Stack::of(&tokens[..read.count], &hours);
     let run = stack.run();
     let shown = showing::shown(&stack.next, run.first, run.last);
     let jobs = shown.jobs;

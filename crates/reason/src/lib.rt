@@ -53,7 +53,9 @@ pub fn reason_between(bytes: &[u8], first: u16, second: u16) -> Result<Reason, R
     if u >= read.jobs || v >= read.jobs {
         return Err(Refusal::NoJob);
     }
-    let nodes = &read.tokens[..read.count];
+    // a list of its own: as a part of `read` it would be copied once more
+    let tokens = read.tokens;
+    let nodes = &tokens[..read.count];
     let found = seeking::lowest(nodes, u, v);
     Ok(Reason {
         rule: found.rule,
