@@ -44,10 +44,11 @@ impl Stack {
         self.top = end;
     }
 
-    // Of the runs down to the entry `end` the first with the greatest total.
+    // Of the runs down to the entry `end` the first with the greatest total. No next job changes.
     fn side(&mut self, end: usize)
         requires { (rs : List WorkRun) × Beside rs end self.old }
-        ensures { Joins parallel end self.old self.new }
+        ensures joins { Joins parallel end self.old self.new }
+        ensures next { self.new.next ≡ self.old.next }
     {
         let mut best = self.runs[end];
         for run in self.runs[self.top..end].iter().rev() {

@@ -45,8 +45,8 @@ loop-run-preserved c = λ rs b.
     let place : k - 1 ≡ c.args.end - length (c.loop-run.yielded ++ c.in-Some.run' ∷ []) = omega (arith, length_push c.loop-run.yielded c.in-Some.run') in
     subst (Chosen rs _ _ b _) place (chosen_later rs _ _ b k (omega arith) x.to_end _ x (rw is at c.if-best-run.false))
 
-pub returns : goal.returns
-returns c = λ rs b.
+pub returns-clause-joins : goal.returns-clause-joins
+returns-clause-joins c = λ rs b.
     let s = c.args.self.now in
     let items = mid_of s.top (c.args.end - s.top) s.runs in
     let (_, all) = YieldsList-end (YieldsList-from_rev_slice items cc) c.loop-run.yielded _ c.loop-run.yielded_by _ _ c.in-None.is c.next.ensures.steps in

@@ -58,4 +58,4 @@ pub returns-else-token-lt384 : goal.returns-else-token-lt384
 returns-else-token-lt384 c =
     let s = (goal.at.returns-else-token-lt384 c).Start in λ ts us step fits stacked.
     let o = opened-at parallel s c.if-token-lt384.false ts us step fits stacked in
-    o.closed _ (c.side.ensures o.children o.beside)
+    o.closed _ (c.side.ensures.joins o.children o.beside)
