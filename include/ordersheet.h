@@ -25,7 +25,7 @@
  * All this and what is said of the calls below is proved of their source (docs/PROOF.md). Not proved, but true of the
  * source: the calls allocate nothing, keep nothing between calls, and may run on several threads at once. Not proved,
  * but measured: a call takes less than ORDERSHEET_STACK bytes of stack; tests/stack/stack.c measures up to 49,000 for a
- * sheet, 29,000 for a preview and, for bytes offered as a record, 21,000 to read them, 14,000 for a longest run, 16,000
+ * sheet, 29,000 for a preview and, for bytes offered as a record, 21,000 to read them, 13,000 for a longest run, 14,000
  * for gangs and 13,000 for a reason. Not proved, but tested: that this header declares what the library has, and the
  * functions at its end, which are C (tests/header). */
 
