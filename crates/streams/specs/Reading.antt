@@ -24,16 +24,16 @@ pub record MoreRead (done : ℕ) (buf buf' : List ℕ) (r : Result Filled Error)
   pub is_told : r ≡ told answer done
   pub stay : take done buf' ≡ take done buf
 
--- one read after the other into a buffer that held buf, each after the bytes of those before it, and each gave something: how many bytes there are
-pub data Reads (buf : List ℕ) : List ℕ → ℕ → Type 0 where
-  none : Reads buf buf 0
-  next : {buf' buf'' : List ℕ} {done : ℕ} {r : Filled} → Reads buf buf' done → done < length buf → MoreRead done buf' buf'' (Ok r) → 0 < r.last
-      → Reads buf buf'' r.len
+-- one read after the other into a buffer that held buf, each after the bytes of those before it, and each gave something: what is told of the last
+pub data Reads (buf : List ℕ) : List ℕ → Filled → Type 0 where
+  none : Reads buf buf (record { len = 0; last = 0 })
+  next : {buf' buf'' : List ℕ} {before r : Filled} → Reads buf buf' before → before.len < length buf → MoreRead before.len buf' buf'' (Ok r) → 0 < r.last
+      → Reads buf buf'' r
 
 -- the input is read, and r is told of the last read: the buffer is full, or that read gave nothing, at the input's end, or it failed
 pub data InputRead (buf : List ℕ) : List ℕ → Result Filled Error → Type 0 where
-  full : {buf' : List ℕ} {r : Filled} → Reads buf buf' r.len → length buf ≤ r.len → InputRead buf buf' (Ok r)
-  ended : {buf' buf'' : List ℕ} {done : ℕ} {r : Filled} → Reads buf buf' done → done < length buf → MoreRead done buf' buf'' (Ok r) → r.last ≡ 0
+  full : {buf' : List ℕ} {r : Filled} → Reads buf buf' r → length buf ≤ r.len → InputRead buf buf' (Ok r)
+  ended : {buf' buf'' : List ℕ} {before r : Filled} → Reads buf buf' before → before.len < length buf → MoreRead before.len buf' buf'' (Ok r) → r.last ≡ 0
       → InputRead buf buf'' (Ok r)
-  failed : {buf' buf'' : List ℕ} {done : ℕ} {e : Error} → Reads buf buf' done → done < length buf → MoreRead done buf' buf'' (Err e)
+  failed : {buf' buf'' : List ℕ} {before : Filled} {e : Error} → Reads buf buf' before → before.len < length buf → MoreRead before.len buf' buf'' (Err e)
       → InputRead buf buf'' (Err e)

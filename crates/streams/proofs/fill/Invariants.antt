@@ -8,7 +8,7 @@ abbrev pub invariant-loop-filled : goal.invariant-loop-filled
 invariant-loop-filled g l = record {
   within : l.filled.len ≤ length l.buf;
   same : length l.buf ≡ length l.initial.buf;
-  reads : Reads l.initial.buf l.buf l.filled.len;
+  reads : Reads l.initial.buf l.buf l.filled;
   bytes : Consumes (g.R.Read.remaining l.initial.input) (g.R.Read.remaining l.input) (take l.filled.len l.buf);
 }
 
