@@ -2,9 +2,8 @@
 
 #![tactic(auto)]
 
-ghost use Rattle.std.specs.Prelude.{◌≤◌, ◌<◌, ◌≡◌, IfOk, length, take};
-ghost use Rattle.std.specs.Io.KnownBytes.{Consumes, IsAtEnd};
-ghost use Rattle.streams.specs.Reading.{InputRead};
+ghost use Rattle.std.specs.Prelude.{◌≤◌, ◌≡◌, IfOk, length};
+ghost use Rattle.streams.specs.Reading.{length_of, InputRead, KnownRead};
 ghost use Rattle.printer.specs.Buffer.{Prints};
 ghost use Rattle.ordersheet.specs.Reading.{buffer_size, answered};
 
@@ -19,8 +18,7 @@ fn read_input<R: Read>(input: &mut R, buf: &mut [u8]) -> io::Result<Filled>
     requires { length buf.old ≡ buffer_size }
     ensures within { IfOk result (λ r. r.len ≤ length buf.new) }
     ensures reads { InputRead buf.old buf.new result }
-    ensures bytes { IfOk result (λ r. Consumes (R.remaining input.old) (R.remaining input.new) (take r.len buf.new)) }
-    ensures end { IfOk result (λ r. r.len < length buf.new → IsAtEnd (R.remaining input.new)) }
+    ensures bytes { KnownRead (R.remaining input.old) (R.remaining input.new) buf.new (length_of result) }
 {
     streams::fill(input, buf)
 }

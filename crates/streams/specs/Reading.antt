@@ -1,5 +1,6 @@
 -- What is told of a read, and of reading until the input ends or the buffer is full.
-use Rattle.std.specs.Prelude.{ℕ, ◌+◌, ◌-◌, ◌≤◌, ◌<◌, ◌≡◌, Result, Ok, Err, IfOk, List, length, take}
+use Rattle.std.specs.Prelude.{ℕ, ◌+◌, ◌-◌, ◌≤◌, ◌<◌, ◌≡◌, Option, Result, Ok, Err, IfOk, MatchResult, List, length, take}
+use Rattle.std.specs.Io.KnownBytes.{Consumes, IsAtEnd}
 use Rattle.std.specs.declared.io.Error.{Error}
 use Rattle.streams.specs.declared.Filled.{Filled}
 
@@ -16,6 +17,11 @@ told (Err e) done = Err e
 abbrev pub length_of : Result Filled Error → Result ℕ Error
 length_of (Ok r) = Ok r.len
 length_of (Err e) = Err e
+
+-- of what is told, how many bytes the last read gave
+abbrev pub last_of : Result Filled Error → Result ℕ Error
+last_of (Ok r) = Ok r.last
+last_of (Err e) = Err e
 
 -- r is told of one read more, into the buffer after its first `done` bytes, which stay
 pub record MoreRead (done : ℕ) (buf buf' : List ℕ) (r : Result Filled Error) : Type 0 where
@@ -37,3 +43,9 @@ pub data InputRead (buf : List ℕ) : List ℕ → Result Filled Error → Type 
       → InputRead buf buf'' (Ok r)
   failed : {buf' buf'' : List ℕ} {before : Filled} {e : Error} → Reads buf buf' before → before.len < length buf → MoreRead before.len buf' buf'' (Err e)
       → InputRead buf buf'' (Err e)
+
+-- an input whose bytes are known, those left before and those left now, is read into a buffer that then holds buf: so many of its bytes are those
+-- that were taken, and it has room left only at the input's end; where a read failed, none that was taken is lost
+abbrev pub KnownRead : Option (List ℕ) → Option (List ℕ) → List ℕ → Result ℕ Error → Type 0
+KnownRead old new buf r =
+    MatchResult r (λ n. Consumes old new (take n buf) × (n < length buf → IsAtEnd new)) (λ _. (n : ℕ) × (n ≤ length buf) × Consumes old new (take n buf))

@@ -2,11 +2,11 @@
 
 #![tactic(auto)]
 
-ghost use Rattle.std.specs.Prelude.{◌≡◌, ◌+◌, ◌^◌, ◌<◌, ◌≤◌, Result, IfOk, length, take, drop};
-ghost use Rattle.std.specs.Io.KnownBytes.{Consumes, IsAtEnd};
+ghost use Rattle.std.specs.Prelude.{◌≡◌, ◌+◌, ◌^◌, ◌<◌, ◌≤◌, Result, IfOk, length, drop};
+ghost use Rattle.std.specs.Io.KnownBytes.{ReadConsumes};
 ghost use Rattle.std.specs.declared.io.Error.{Error};
 ghost use Rattle.streams.specs.declared.Filled.{Filled};
-ghost use Rattle.streams.specs.Reading.{told, length_of, MoreRead, InputRead};
+ghost use Rattle.streams.specs.Reading.{told, length_of, last_of, MoreRead, InputRead, KnownRead};
 
 use std::io::{Read, Write};
 use std::{io, str};
@@ -35,22 +35,19 @@ fn told(answer: io::Result<usize>, done: usize) -> io::Result<Filled>
 fn read_more<R: Read>(input: &mut R, buf: &mut [u8], done: usize) -> io::Result<Filled>
     requires { done ≤ length buf.old }
     ensures reads { MoreRead done buf.old buf.new result }
-    ensures bytes { IfOk result (λ r. Consumes (R.remaining input.old) (R.remaining input.new)
-        (take r.last (drop done buf.new))) }
-    ensures end { IfOk result (λ r. r.last ≡ 0 → done < length buf.new → IsAtEnd (R.remaining input.new)) }
+    ensures bytes { ReadConsumes (R.remaining input.old) (R.remaining input.new) (last_of result) (drop done buf.new) }
 {
     let answer = input.read(&mut buf[done..]);
     told(answer, done)
 }
 
 // Reads until the input ends or the buffer is full. Where the input's bytes are known, the buffer has them, and those
-// that it has no room for are left.
+// that it has no room for are left; where a read failed, it has all that were taken.
 // A `while`: each read takes the rest of the buffer, which no iterator hands out.
 pub fn fill<R: Read>(input: &mut R, buf: &mut [u8]) -> io::Result<Filled>
     ensures within { IfOk result (λ r. r.len ≤ length buf.new) }
     ensures reads { InputRead buf.old buf.new result }
-    ensures bytes { IfOk result (λ r. Consumes (R.remaining input.old) (R.remaining input.new) (take r.len buf.new)) }
-    ensures end { IfOk result (λ r. r.len < length buf.new → IsAtEnd (R.remaining input.new)) }
+    ensures bytes { KnownRead (R.remaining input.old) (R.remaining input.new) buf.new (length_of result) }
 {
     let mut filled = Filled { len: 0, last: 0 };
     while filled.len < buf.len() {
@@ -66,8 +63,7 @@ pub fn fill<R: Read>(input: &mut R, buf: &mut [u8]) -> io::Result<Filled>
 pub fn read_full<R: Read>(input: &mut R, buf: &mut [u8]) -> io::Result<usize>
     ensures within { IfOk result (λ n. n ≤ length buf.new) }
     ensures reads { (r : Result Filled Error) × InputRead buf.old buf.new r × (result ≡ length_of r) }
-    ensures bytes { IfOk result (λ n. Consumes (R.remaining input.old) (R.remaining input.new) (take n buf.new)) }
-    ensures end { IfOk result (λ n. n < length buf.new → IsAtEnd (R.remaining input.new)) }
+    ensures bytes { KnownRead (R.remaining input.old) (R.remaining input.new) buf.new result }
 {
     Ok(fill(input, buf)?.len)
 }

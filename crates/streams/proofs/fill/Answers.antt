@@ -23,7 +23,7 @@ loop-filled-preserved g c =
       within = omega arith;
       same = omega arith;
       reads = next before.reads (omega arith) read.reads (omega arith);
-      bytes = consumes_more _ _ _ _ _ _ _ count.0 read.reads.stay before.bytes read.bytes;
+      bytes = consumes_more _ _ _ _ _ _ _ count.0 read.reads.stay before.bytes read.bytes.0;
     }
 
 pub returns-after-loop-filled-clause-reads : goal.returns-after-loop-filled-clause-reads
